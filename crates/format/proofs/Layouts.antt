@@ -1,0 +1,56 @@
+-- Every field of a header lies inside it. Assumes nothing.
+use Prim.Native.Nat.{ℕ, _+_, _≤_}
+use mathlib.Core.Path.{_≡_}
+use native.Mathlib.Omega.{arith}
+use lib.Dec.{lit≤}
+use Rattle.word.specs.declared.Field.{Field}
+use Rattle.word.specs.Number.{bytesIn}
+use Rattle.format.specs.declared.Format.{Format}
+use Rattle.format.specs.declared.Format.the-variants.{Xcoff32, Xcoff64}
+use Rattle.format.specs.declared.HeaderLayout.{HeaderLayout}
+use Rattle.format.specs.declared.SectionLayout.{SectionLayout}
+use Rattle.format.specs.Layout.{headerLayout, sectionLayout}
+
+-- a field of what starts at base ends at or before n
+abbrev pub FieldInside : Field → ℕ → ℕ → Type 0
+FieldInside f base n = base + f .offset + bytesIn (f .width) ≤ n
+
+-- the fields of a file header, in a file of n bytes
+pub record HeaderInside (l : HeaderLayout) (n : ℕ) : Type 0 where
+  pub nscns : FieldInside (l .nscns) 0 n
+  pub symptr : FieldInside (l .symptr) 0 n
+  pub nsyms : FieldInside (l .nsyms) 0 n
+  pub opthdr : FieldInside (l .opthdr) 0 n
+  pub flags : FieldInside (l .flags) 0 n
+
+header-fields : (f : Format) (n : ℕ) → headerLayout f .length ≤ n → HeaderInside (headerLayout f) n
+header-fields Xcoff32 n h = record { nscns = omega arith; symptr = omega arith; nsyms = omega arith; opthdr = omega arith; flags = omega arith }
+header-fields Xcoff64 n h = record { nscns = omega arith; symptr = omega arith; nsyms = omega arith; opthdr = omega arith; flags = omega arith }
+
+pub header-inside : (f : Format) {l : HeaderLayout} (n : ℕ) → l ≡ headerLayout f → headerLayout f .length ≤ n → HeaderInside l n
+header-inside f n e h = rw e (header-fields f n h)
+
+-- the fields of a section header at base, in a file of n bytes
+pub record SectionInside (l : SectionLayout) (base n : ℕ) : Type 0 where
+  pub name : FieldInside (l .name) base n
+  pub paddr : FieldInside (l .paddr) base n
+  pub vaddr : FieldInside (l .vaddr) base n
+  pub size : FieldInside (l .size) base n
+  pub scnptr : FieldInside (l .scnptr) base n
+  pub flags : FieldInside (l .flags) base n
+
+section-fields : (f : Format) (base n : ℕ) → base + sectionLayout f .length ≤ n → SectionInside (sectionLayout f) base n
+section-fields Xcoff32 base n h = record { name = omega arith; paddr = omega arith; vaddr = omega arith; size = omega arith; scnptr = omega arith; flags = omega arith }
+section-fields Xcoff64 base n h = record { name = omega arith; paddr = omega arith; vaddr = omega arith; size = omega arith; scnptr = omega arith; flags = omega arith }
+
+pub section-inside : (f : Format) {l : SectionLayout} (base n : ℕ) → l ≡ sectionLayout f → base + sectionLayout f .length ≤ n → SectionInside l base n
+section-inside f base n e h = rw e (section-fields f base n h)
+
+-- how long the headers are
+pub header-short : (f : Format) → headerLayout f .length ≤ 24
+header-short Xcoff32 = lit≤ tt
+header-short Xcoff64 = lit≤ tt
+
+pub section-short : (f : Format) → sectionLayout f .length ≤ 72
+section-short Xcoff32 = lit≤ tt
+section-short Xcoff64 = lit≤ tt

@@ -1,0 +1,81 @@
+-- The kinds of section that the flags of a section header allow.
+use Prim.Native.Nat.{ℕ, _/_, _%_}
+use mathlib.Core.Bool.{Bool, true, false, cond}
+use mathlib.Core.List.{List, [], _∷_}
+use lib.Dec.{eqb}
+use Rattle.format.specs.declared.SectionKind.{SectionKind}
+use Rattle.format.specs.declared.SectionKind.the-variants.{Deleted, Pad, Dwarf, Text, Data, Bss, Except, Info, Tdata, Tbss, Loader, Debug, Typchk, Ovrflo}
+use Rattle.format.specs.declared.KindAnswer.{KindAnswer}
+use Rattle.format.specs.declared.KindAnswer.the-variants.{Allowed, NotAllowed}
+
+-- a kind and the low 16 bits of its flags
+pub record KindRow : Type 0 where
+  pub flag : ℕ
+  pub kind : SectionKind
+
+abbrev pub kinds : List KindRow
+kinds =
+    record { flag = 0x0008; kind = Pad }
+    ∷ record { flag = 0x0010; kind = Dwarf }
+    ∷ record { flag = 0x0020; kind = Text }
+    ∷ record { flag = 0x0040; kind = Data }
+    ∷ record { flag = 0x0080; kind = Bss }
+    ∷ record { flag = 0x0100; kind = Except }
+    ∷ record { flag = 0x0200; kind = Info }
+    ∷ record { flag = 0x0400; kind = Tdata }
+    ∷ record { flag = 0x0800; kind = Tbss }
+    ∷ record { flag = 0x1000; kind = Loader }
+    ∷ record { flag = 0x2000; kind = Debug }
+    ∷ record { flag = 0x4000; kind = Typchk }
+    ∷ record { flag = 0x8000; kind = Ovrflo }
+    ∷ []
+
+-- the kind that a list of kinds gives a number
+abbrev pub kindIn : ℕ → List KindRow → KindAnswer
+kindIn low [] = NotAllowed
+kindIn low (r ∷ rs) = cond (eqb low (r .flag)) (Allowed (r .kind)) (kindIn low rs)
+
+unfoldable pub lowKind : ℕ → KindAnswer
+lowKind low = kindIn low kinds
+
+-- all ones: deleted. Otherwise the low 16 bits are one of the kinds, and the high 16 are 0, for dwarf not looked at
+unfoldable pub kindOf : ℕ → KindAnswer
+kindOf flags =
+    cond (eqb flags 0xFFFFFFFF) (Allowed Deleted)
+    (cond (eqb (flags % 65536) 0x0010) (Allowed Dwarf)
+    (cond (eqb (flags / 65536) 0) (lowKind (flags % 65536))
+    NotAllowed))
+
+-- the kinds that have raw data where `s_scnptr` is not 0: not bss, tbss and ovrflo. A deleted section is not examined, so it has none
+abbrev pub hasRawKind : SectionKind → Bool
+hasRawKind Deleted = false
+hasRawKind Pad = true
+hasRawKind Dwarf = true
+hasRawKind Text = true
+hasRawKind Data = true
+hasRawKind Bss = false
+hasRawKind Except = true
+hasRawKind Info = true
+hasRawKind Tdata = true
+hasRawKind Tbss = false
+hasRawKind Loader = true
+hasRawKind Debug = true
+hasRawKind Typchk = true
+hasRawKind Ovrflo = false
+
+-- the kinds whose addresses are examined: text, data, bss
+abbrev pub isPlacedKind : SectionKind → Bool
+isPlacedKind Deleted = false
+isPlacedKind Pad = false
+isPlacedKind Dwarf = false
+isPlacedKind Text = true
+isPlacedKind Data = true
+isPlacedKind Bss = true
+isPlacedKind Except = false
+isPlacedKind Info = false
+isPlacedKind Tdata = false
+isPlacedKind Tbss = false
+isPlacedKind Loader = false
+isPlacedKind Debug = false
+isPlacedKind Typchk = false
+isPlacedKind Ovrflo = false

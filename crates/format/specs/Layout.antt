@@ -1,0 +1,73 @@
+-- The two formats: their magic numbers, where their headers keep each number, and the end of their address spaces.
+use Prim.Native.Nat.{ℕ, _^_}
+use mathlib.Core.Bool.{cond}
+use lib.Dec.{eqb}
+use Rattle.word.specs.declared.Field.{Field}
+use Rattle.word.specs.declared.Width.the-variants.{Two, Four, Eight}
+use Rattle.word.specs.Number.{field}
+use Rattle.format.specs.declared.Format.{Format}
+use Rattle.format.specs.declared.Format.the-variants.{Xcoff32, Xcoff64}
+use Rattle.format.specs.declared.MagicAnswer.{MagicAnswer}
+use Rattle.format.specs.declared.MagicAnswer.the-variants.{Known, Unknown}
+use Rattle.format.specs.declared.HeaderLayout.{HeaderLayout}
+use Rattle.format.specs.declared.SectionLayout.{SectionLayout}
+
+-- the magic number stands at the same place in both formats
+abbrev pub magicField : Field
+magicField = field 0 Two
+
+unfoldable pub formatOf : ℕ → MagicAnswer
+formatOf magic = cond (eqb magic 0x01DF) (Known Xcoff32) (cond (eqb magic 0x01F7) (Known Xcoff64) Unknown)
+
+-- the file header
+abbrev pub headerLayout : Format → HeaderLayout
+headerLayout Xcoff32 =
+    record {
+      nscns = field 2 Two;
+      symptr = field 8 Four;
+      nsyms = field 12 Four;
+      opthdr = field 16 Two;
+      flags = field 18 Two;
+      length = 20;
+    }
+headerLayout Xcoff64 =
+    record {
+      nscns = field 2 Two;
+      symptr = field 8 Eight;
+      nsyms = field 20 Four;
+      opthdr = field 16 Two;
+      flags = field 18 Two;
+      length = 24;
+    }
+
+-- a section header
+abbrev pub sectionLayout : Format → SectionLayout
+sectionLayout Xcoff32 =
+    record {
+      name = field 0 Eight;
+      paddr = field 8 Four;
+      vaddr = field 12 Four;
+      size = field 16 Four;
+      scnptr = field 20 Four;
+      flags = field 36 Four;
+      length = 40;
+    }
+sectionLayout Xcoff64 =
+    record {
+      name = field 0 Eight;
+      paddr = field 8 Eight;
+      vaddr = field 16 Eight;
+      size = field 24 Eight;
+      scnptr = field 32 Eight;
+      flags = field 64 Four;
+      length = 72;
+    }
+
+-- a symbol table entry, in both formats
+abbrev pub symbolLength : ℕ
+symbolLength = 18
+
+-- the end of the address space
+abbrev pub addressLimit : Format → ℕ
+addressLimit Xcoff32 = 2 ^ 32
+addressLimit Xcoff64 = 2 ^ 64

@@ -1,0 +1,5 @@
+-- What the contracts of `format` cite.
+pub mod Limit
+pub mod Layout
+pub mod Kind
+pub mod Range

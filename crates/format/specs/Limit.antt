@@ -1,0 +1,10 @@
+-- The limits of document 01 that opening judges: what is above one is refused.
+use Prim.Native.Nat.{ℕ}
+
+-- LIMIT 0: the file's bytes
+abbrev pub fileLimit : ℕ
+fileLimit = 16777216
+
+-- LIMIT 1: sections
+abbrev pub sectionLimit : ℕ
+sectionLimit = 32

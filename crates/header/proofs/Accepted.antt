@@ -1,0 +1,167 @@
+-- What an accepted file guarantees, for the crates above. Assumes nothing.
+use Prim.Native.Nat.{ℕ, zero, suc, _+_, _*_, _≤_, _<_}
+use mathlib.Core.Path.{_≡_, refl, _∙_}
+use mathlib.Core.List.{List}
+use native.Mathlib.Decide.{ℕ-discrete}
+use native.Mathlib.Omega.{arith}
+use lib.Dec.{ltb}
+use lib.ListN.{length, getD, set, length-set, length-replicate}
+use lib.Seq.{getD-set-same, getD-set-other}
+use borrow.Author.Tests.{ltb-false, eq-eqb, ne-eqb}
+use Rattle.word.specs.Number.{fieldIn}
+use Rattle.word.proofs.Test.{either}
+use Rattle.format.specs.declared.Format.{Format}
+use Rattle.format.specs.declared.MagicAnswer.{MagicAnswer}
+use Rattle.format.specs.declared.MagicAnswer.the-variants.{Known, Unknown}
+use Rattle.format.specs.Layout.{magicField, formatOf, headerLayout, symbolLength}
+use Rattle.format.specs.Limit.{fileLimit, sectionLimit}
+use Rattle.refusal.specs.declared.Refusal.{Refusal}
+use Rattle.refusal.specs.declared.Refusal.the-variants.{Short, Magic, Limit}
+use Rattle.refusal.specs.declared.LimitItem.the-variants.{File, Sections}
+use Rattle.refusal.specs.declared.Verdict.{Verdict}
+use Rattle.refusal.specs.declared.Verdict.the-variants as verdict
+use Rattle.refusal.specs.Order.{_orElse_, refuseIf}
+use Rattle.refusal.proofs.Order.{not-accepted, accepted-first, accepted-rest, accepted-test, first-all}
+use Rattle.section.specs.declared.SectionAnswer.{SectionAnswer}
+use Rattle.section.specs.declared.SectionAnswer.the-variants.{Found, Refused}
+use Rattle.section.specs.Section.{sectionHeaderAt}
+use Rattle.section.proofs.Judged.{Judged, SectionInside, section-judged}
+use Rattle.header.specs.declared.FileHeader.{FileHeader}
+use Rattle.header.specs.declared.Summary.{Summary}
+use Rattle.header.specs.declared.Opened.{Opened}
+use Rattle.header.specs.Header.{headerAt, sectionStart, headerCheck, HeaderComplete}
+use Rattle.header.specs.Tables.{blankSection, blankSections, judgedAt, verdictOf, recordOf, sectionsCheck, sectionsOf, symbolsCheck, symbolTable}
+use Rattle.header.specs.Open.{refusedBy, openedBy, summaryWith, openAs, openBy, openOf}
+use Rattle.header.proofs.Symbols.{symbols-inside, strings-inside}
+
+-- ---- the file header
+
+module _ (f : Format) (file : List ℕ) (e : headerCheck f file ≡ verdict.Accepted) where
+  header-tests : (refuseIf (ltb (length file) (headerLayout f .length)) Short orElse refuseIf (ltb sectionLimit (headerAt f file .nscns)) (Limit Sections) orElse refuseIf (ltb (length file) (sectionStart f (headerAt f file .opthdr) (headerAt f file .nscns))) Short) ≡ verdict.Accepted
+  unfolding headerCheck
+  header-tests = e
+
+  pub header-in : headerLayout f .length ≤ length file
+  header-in =
+      ltb-false (length file) (headerLayout f .length)
+      (accepted-test (ltb (length file) (headerLayout f .length)) Short (accepted-first (refuseIf (ltb (length file) (headerLayout f .length)) Short) _ header-tests))
+
+  rest : (refuseIf (ltb sectionLimit (headerAt f file .nscns)) (Limit Sections) orElse refuseIf (ltb (length file) (sectionStart f (headerAt f file .opthdr) (headerAt f file .nscns))) Short) ≡ verdict.Accepted
+  rest = accepted-rest (refuseIf (ltb (length file) (headerLayout f .length)) Short) _ header-tests
+
+  few : headerAt f file .nscns ≤ sectionLimit
+  few =
+      ltb-false sectionLimit (headerAt f file .nscns)
+      (accepted-test (ltb sectionLimit (headerAt f file .nscns)) (Limit Sections) (accepted-first (refuseIf (ltb sectionLimit (headerAt f file .nscns)) (Limit Sections)) _ rest))
+
+  headers-in : sectionStart f (headerAt f file .opthdr) (headerAt f file .nscns) ≤ length file
+  headers-in =
+      ltb-false (length file) (sectionStart f (headerAt f file .opthdr) (headerAt f file .nscns))
+      (accepted-test (ltb (length file) (sectionStart f (headerAt f file .opthdr) (headerAt f file .nscns))) Short
+      (accepted-rest (refuseIf (ltb sectionLimit (headerAt f file .nscns)) (Limit Sections)) _ rest))
+
+format-is : (f : Format) (file : List ℕ) → headerAt f file .format ≡ f
+unfolding headerAt
+format-is f file = refl
+
+pub header-complete : (f : Format) (file : List ℕ) → headerCheck f file ≡ verdict.Accepted → HeaderComplete file (headerAt f file)
+header-complete f file e = record { few = few f file e; inside = rw (format-is f file) (headers-in f file e) }
+
+-- ---- the sections
+
+-- each record stands at its place
+length-sections : (file : List ℕ) (h : FileHeader) (n : ℕ) → length (sectionsOf file h n) ≡ sectionLimit
+unfolding sectionsOf blankSections
+length-sections file h zero = length-replicate 32 blankSection
+length-sections file h (suc n) = length-set (sectionsOf file h n) n (recordOf (judgedAt file h n)) ∙ length-sections file h n
+
+section-record : (file : List ℕ) (h : FileHeader) (n i : ℕ) → n ≤ sectionLimit → i < n → getD (sectionsOf file h n) i blankSection ≡ recordOf (judgedAt file h i)
+unfolding sectionsOf
+section-record file h zero i l k = absurd (omega arith)
+section-record file h (suc n) i l k = by-place (section-record file h n i (omega arith)) (ℕ-discrete i n)
+  where
+    by-place : (i < n → getD (sectionsOf file h n) i blankSection ≡ recordOf (judgedAt file h i)) → Dec (i ≡ n) → getD (set (sectionsOf file h n) n (recordOf (judgedAt file h n))) i blankSection ≡ recordOf (judgedAt file h i)
+    by-place before (yes p) = rw p (getD-set-same (sectionsOf file h n) n (recordOf (judgedAt file h n)) blankSection (rw (length-sections file h n) l))
+    by-place before (no p) = getD-set-other (sectionsOf file h n) n i (recordOf (judgedAt file h n)) blankSection p ∙ before (omega arith)
+
+-- an accepted section is inside the file and the address space
+found-inside : (f : Format) (len : ℕ) (a : SectionAnswer) → Judged f len a → verdictOf a ≡ verdict.Accepted → SectionInside f len (recordOf a)
+found-inside f len (Found s) j e = j
+found-inside f len (Refused x) j e = not-accepted e
+
+judged-inside : (file : List ℕ) (h : FileHeader) (i : ℕ) → verdictOf (judgedAt file h i) ≡ verdict.Accepted → SectionInside (h .format) (length file) (recordOf (judgedAt file h i))
+unfolding judgedAt
+judged-inside file h i e =
+    found-inside (h .format) (length file) (judgedAt file h i) (section-judged (h .format) (length file) (sectionHeaderAt (h .format) (sectionStart (h .format) (h .opthdr) i) file) (record { 0 = i + 1 })) e
+
+-- ---- the whole file
+
+-- what an accepted file guarantees: its headers, tables and raw data are in the file, its sections in the address space
+pub record Inside (file : List ℕ) (y : Summary) : Type 0 where
+  pub small : length file ≤ fileLimit
+  pub few : y .count ≤ sectionLimit
+  pub headers : sectionStart (y .format) (y .opthdr) (y .count) ≤ length file
+  pub symbols : y .symbols .start .0 + y .symbols .count * symbolLength ≤ length file
+  pub strings : y .symbols .strings .start .0 + y .symbols .strings .length ≤ length file
+  pub sections : (i : ℕ) → i < y .count → SectionInside (y .format) (length file) (getD (y .sections) i blankSection)
+
+module _ (file : List ℕ) (h : FileHeader) (e : symbolsCheck file h ≡ verdict.Accepted) where
+  symbols-in : Dec (h .nsyms ≡ 0) → symbolTable file h .start .0 + symbolTable file h .count * symbolLength ≤ length file
+  unfolding symbolTable
+  symbols-in (yes z) = rw (eq-eqb (h .nsyms) 0 z) (omega arith)
+  symbols-in (no n) = rw (ne-eqb (h .nsyms) 0 n) (symbols-inside file h e n)
+
+  strings-in : Dec (h .nsyms ≡ 0) → symbolTable file h .strings .start .0 + symbolTable file h .strings .length ≤ length file
+  unfolding symbolTable
+  strings-in (yes z) = rw (eq-eqb (h .nsyms) 0 z) (omega arith)
+  strings-in (no n) = rw (ne-eqb (h .nsyms) 0 n) (strings-inside file h e n)
+
+-- the checks that are passed give it
+checked-inside : (f : Format) (file : List ℕ) → length file ≤ fileLimit → headerCheck f file ≡ verdict.Accepted → sectionsCheck file (headerAt f file) ≡ verdict.Accepted → symbolsCheck file (headerAt f file) ≡ verdict.Accepted
+    → Inside file (summaryWith file (headerAt f file) (sectionsOf file (headerAt f file) (headerAt f file .nscns)))
+unfolding summaryWith sectionsCheck
+checked-inside f file l e k m =
+    let h = headerAt f file in
+    record {
+      small = l;
+      few = few f file e;
+      headers = header-complete f file e .inside;
+      symbols = symbols-in file h m (ℕ-discrete (h .nsyms) 0);
+      strings = strings-in file h m (ℕ-discrete (h .nsyms) 0);
+      sections = λ i p. rw (section-record file h (h .nscns) i (few f file e) p)
+          (judged-inside file h i (first-all (λ j. verdictOf (judgedAt file h j)) (h .nscns) 0 k i (omega arith) (omega arith)));
+    }
+
+-- of an answer: it holds where the file is accepted
+abbrev pub Answered : List ℕ → Opened → Type 0
+Answered file o = o .verdict ≡ verdict.Accepted → Inside file (o .summary)
+
+refused-answered : (file : List ℕ) (x : Refusal) → Answered file (refusedBy (verdict.Refused x))
+unfolding refusedBy
+refused-answered file x e = not-accepted e
+
+by-verdict : (file : List ℕ) (v : Verdict) (y : Summary) → (v ≡ verdict.Accepted → Inside file y) → Answered file (openedBy v y)
+unfolding openedBy
+by-verdict file verdict.Accepted y k e = k e
+by-verdict file (verdict.Refused x) y k e = refused-answered file x e
+
+as-answered : (f : Format) (file : List ℕ) → length file ≤ fileLimit → Answered file (openAs f file)
+unfolding openAs
+as-answered f file l =
+    let h = headerAt f file in
+    by-verdict file (headerCheck f file orElse sectionsCheck file h orElse symbolsCheck file h) _
+    (λ e. let r = accepted-rest (headerCheck f file) _ e in
+    checked-inside f file l (accepted-first (headerCheck f file) _ e) (accepted-first (sectionsCheck file h) _ r) (accepted-rest (sectionsCheck file h) _ r))
+
+by-format : (file : List ℕ) (a : MagicAnswer) → length file ≤ fileLimit → Answered file (openBy file a)
+unfolding openBy
+by-format file Unknown l = refused-answered file Magic
+by-format file (Known f) l = as-answered f file l
+
+-- an accepted file is inside its bounds
+pub opened-inside : (file : List ℕ) → openOf file .verdict ≡ verdict.Accepted → Inside file (openOf file .summary)
+unfolding openOf
+opened-inside file =
+    either (Answered file) (ltb fileLimit (length file)) (λ _. refused-answered file (Limit File))
+    (λ l. either (Answered file) (ltb (length file) 2) (λ _. refused-answered file Short)
+    (λ _. by-format file (formatOf (fieldIn magicField 0 file)) (ltb-false fileLimit (length file) l)))

@@ -1,0 +1,47 @@
+use native.Mathlib.Omega.{arith}
+use borrow.Author.Needs.{needs}
+use Rattle.word.proofs.Test.{found}
+use Rattle.header.proofs.Lookup.{looked-up, known, inside, section-refused, section-found, section-reported}
+use Rattle.header.proofs.section_at.Statement.{statement}
+use Rattle.header.proofs.section_at.Tie as tie
+
+open-requires : tie.Need-open-requires
+open-requires c κs = search needs
+
+check-number-requires : tie.Need-check-number-requires
+check-number-requires c κs = search needs
+
+enum-known-v : tie.Need-enum-known-v
+enum-known-v c = search needs
+
+enum-told : tie.Need-enum-told
+enum-told c = search needs
+
+sub-i : tie.Need-sub-i
+sub-i c = let a = c .before .before .before .before .before .before .before .args in let k = known (a .file .now) (a .n) (found (looked-up (a .file .now) (a .n) (c .before .before .before .before .before .«open» .ensures .0) (c .before .before .before .check-number .ensures)) (c .before .enum-told .given .1)) in omega arith
+
+mul-section : tie.Need-mul-section
+mul-section c = let a = c .before .before .before .before .before .before .before .args in let e = found (looked-up (a .file .now) (a .n) (c .before .before .before .before .before .«open» .ensures .0) (c .before .before .before .check-number .ensures)) (c .before .enum-told .given .1) in let k = known (a .file .now) (a .n) e in let i = inside (a .file .now) (a .n) e .few in omega arith
+
+element-copy-out-section : tie.Need-element-copy-out-section
+element-copy-out-section c = let a = c .before .before .before .before .before .before .before .args in let e = found (looked-up (a .file .now) (a .n) (c .before .before .before .before .before .«open» .ensures .0) (c .before .before .before .check-number .ensures)) (c .before .enum-told .given .1) in let k = known (a .file .now) (a .n) e in let i = inside (a .file .now) (a .n) e .few in search needs
+
+returns : tie.Need-returns
+returns c = let a = c .before .before .before .before .before .before .before .args in section-reported (a .file .now) (a .n) (section-refused (a .file .now) (a .n) _ (looked-up (a .file .now) (a .n) (c .before .before .before .before .before .«open» .ensures .0) (c .before .before .before .check-number .ensures)) (c .before .v .given .1))
+
+returns-2 : tie.Need-returns-2
+returns-2 c = let a = c .before .before .before .before .before .before .before .before .args in section-reported (a .file .now) (a .n) (section-found (a .file .now) (a .n) (c .before .before .before .before .before .before .«open» .ensures .0) (looked-up (a .file .now) (a .n) (c .before .before .before .before .before .before .«open» .ensures .0) (c .before .before .before .before .check-number .ensures)) (c .before .before .enum-told .given .1))
+
+pub section-at-spec : {M : Type 1} → statement M
+section-at-spec =
+    tie.close
+    (tie.spec
+    open-requires
+    check-number-requires
+    enum-known-v
+    enum-told
+    sub-i
+    mul-section
+    element-copy-out-section
+    returns
+    returns-2)

@@ -1,0 +1,78 @@
+-- What opening a file gives, in the order of document 01, "Opening".
+use Prim.Native.Nat.{ℕ}
+use mathlib.Core.Bool.{cond}
+use mathlib.Core.List.{List}
+use lib.Dec.{ltb}
+use lib.ListN.{length}
+use Rattle.word.specs.Number.{fieldIn}
+use Rattle.format.specs.declared.Format.{Format}
+use Rattle.format.specs.declared.Format.the-variants.{Xcoff32}
+use Rattle.format.specs.declared.MagicAnswer.{MagicAnswer}
+use Rattle.format.specs.declared.MagicAnswer.the-variants.{Known, Unknown}
+use Rattle.format.specs.Layout.{magicField, formatOf}
+use Rattle.format.specs.Limit.{fileLimit}
+use Rattle.refusal.specs.declared.Refusal.the-variants.{Short, Magic, Limit}
+use Rattle.refusal.specs.declared.LimitItem.the-variants.{File}
+use Rattle.refusal.specs.declared.Verdict.{Verdict}
+use Rattle.refusal.specs.declared.Verdict.the-variants.{Accepted, Refused}
+use Rattle.refusal.specs.Refusal.{reportNumber, reportItem}
+use Rattle.refusal.specs.Order.{_orElse_}
+use Rattle.section.specs.declared.Section.{Section}
+use Rattle.header.specs.declared.FileHeader.{FileHeader}
+use Rattle.header.specs.declared.Summary.{Summary}
+use Rattle.header.specs.declared.Opened.{Opened}
+use Rattle.header.specs.Header.{headerAt, headerCheck}
+use Rattle.header.specs.Tables.{blankSections, sectionsCheck, sectionsOf, symbolsCheck, tableAt, symbolTable}
+
+-- what is handed back beside a refusal
+unfoldable pub blankSummary : Summary
+blankSummary =
+    record { format = Xcoff32; count = 0; sections = blankSections; symbols = tableAt 0 0 0 0; opthdr = 0; flags = 0 }
+
+unfoldable pub summaryWith : List ℕ → FileHeader → List Section → Summary
+summaryWith file h t =
+    record {
+      format = h .format;
+      count = h .nscns;
+      sections = t;
+      symbols = symbolTable file h;
+      opthdr = h .opthdr;
+      flags = h .flags;
+    }
+
+unfoldable pub refusedBy : Verdict → Opened
+refusedBy v = record { verdict = v; summary = blankSummary }
+
+unfoldable pub openedBy : Verdict → Summary → Opened
+openedBy Accepted y = record { verdict = Accepted; summary = y }
+openedBy (Refused x) y = refusedBy (Refused x)
+
+-- the file header, then each section, then symbols
+unfoldable pub openAs : Format → List ℕ → Opened
+openAs f file =
+    openedBy
+    (headerCheck f file orElse sectionsCheck file (headerAt f file) orElse symbolsCheck file (headerAt f file))
+    (summaryWith file (headerAt f file) (sectionsOf file (headerAt f file) (headerAt f file .nscns)))
+
+unfoldable pub openBy : List ℕ → MagicAnswer → Opened
+openBy file Unknown = refusedBy (Refused Magic)
+openBy file (Known f) = openAs f file
+
+-- LIMIT 0, SHORT, MAGIC, then by the format
+unfoldable pub openOf : List ℕ → Opened
+openOf file =
+    cond (ltb fileLimit (length file)) (refusedBy (Refused (Limit File)))
+    (cond (ltb (length file) 2) (refusedBy (Refused Short))
+    (openBy file (formatOf (fieldIn magicField 0 file))))
+
+-- document 01's number (0: accepted), item and values of the answer
+pub record OpenReport : Type 0 where
+  pub number : ℕ
+  pub item : ℕ
+  pub summary : Summary
+
+abbrev pub reportOfOpened : Opened → OpenReport
+reportOfOpened o = record { number = reportNumber (o .verdict); item = reportItem (o .verdict); summary = o .summary }
+
+abbrev pub openReport : List ℕ → OpenReport
+openReport file = reportOfOpened (openOf file)

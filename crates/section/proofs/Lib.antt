@@ -1,0 +1,3 @@
+-- What an accepted section guarantees, for the crates above.
+
+pub mod Judged

@@ -1,0 +1,160 @@
+// Numbers in bytes: big-endian reads, the first zero of a slice, and sums compared in exact arithmetic.
+ghost use mathlib.Core.Path.{_≡_};
+ghost use Prim.Native.Nat.{_+_, _≤_, _<_, _^_};
+ghost use lib.ListN.{length};
+ghost use Rattle.word.specs.Number.{field, fieldAt, bytesIn, fieldIn};
+ghost use Rattle.word.specs.Zero.{firstZero};
+ghost use Rattle.word.specs.Test.{past};
+
+// How many bytes a number takes.
+pub enum Width {
+    One,
+    Two,
+    Four,
+    Eight,
+}
+
+// The place of a number in a header or table entry: its offset from the first byte there, and its width.
+pub struct Field {
+    pub offset: usize,
+    pub width: Width,
+}
+
+// The place of a number of one, two, four or eight bytes.
+pub fn one(offset: usize) -> Field
+    ensures { λ r. ⌜ r ≡ field offset Width.One ⌝ }
+{
+    Field {
+        offset,
+        width: Width::One,
+    }
+}
+
+pub fn two(offset: usize) -> Field
+    ensures { λ r. ⌜ r ≡ field offset Width.Two ⌝ }
+{
+    Field {
+        offset,
+        width: Width::Two,
+    }
+}
+
+pub fn four(offset: usize) -> Field
+    ensures { λ r. ⌜ r ≡ field offset Width.Four ⌝ }
+{
+    Field {
+        offset,
+        width: Width::Four,
+    }
+}
+
+pub fn eight(offset: usize) -> Field
+    ensures { λ r. ⌜ r ≡ field offset Width.Eight ⌝ }
+{
+    Field {
+        offset,
+        width: Width::Eight,
+    }
+}
+
+pub fn bytes_in(w: Width) -> usize
+    ensures { λ r. ⌜ r ≡ bytesIn w ⌝ }
+{
+    match w {
+        Width::One => 1,
+        Width::Two => 2,
+        Width::Four => 4,
+        Width::Eight => 8,
+    }
+}
+
+pub fn get8(s: &[u8], off: usize) -> u8
+    requires { ⌜ off + 1 ≤ length (now s) ⌝ }
+    ensures { λ r. ⌜ r ≡ fieldAt 1 off (now (s .entry)) ⌝ }
+{
+    s[off]
+}
+
+// Each width is two reads of the one below it; the compiler makes one load and a byte swap of it.
+pub fn get16(s: &[u8], off: usize) -> u16
+    requires { ⌜ off + 2 ≤ length (now s) ⌝ }
+    ensures { λ r. ⌜ r ≡ fieldAt 2 off (now (s .entry)) ⌝ }
+{
+    let high = get8(s, off);
+    let low = get8(s, off + 1);
+    (high as u16) * 256 + (low as u16)
+}
+
+pub fn get32(s: &[u8], off: usize) -> u32
+    requires { ⌜ off + 4 ≤ length (now s) ⌝ }
+    ensures { λ r. ⌜ r ≡ fieldAt 4 off (now (s .entry)) ⌝ }
+{
+    let high = get16(s, off);
+    let low = get16(s, off + 2);
+    (high as u32) * 65536 + (low as u32)
+}
+
+pub fn get64(s: &[u8], off: usize) -> u64
+    requires { ⌜ off + 8 ≤ length (now s) ⌝ }
+    ensures { λ r. ⌜ r ≡ fieldAt 8 off (now (s .entry)) ⌝ }
+{
+    let high = get32(s, off);
+    let low = get32(s, off + 4);
+    (high as u64) * 4294967296 + (low as u64)
+}
+
+// The number at the place `f` of what starts at `base`.
+pub fn read_field(s: &[u8], base: usize, f: Field) -> u64
+    requires { ⌜ base + f .offset + bytesIn (f .width) ≤ length (now s) ⌝ }
+    ensures value { λ r. ⌜ r ≡ fieldIn f base (now (s .entry)) ⌝ }
+    ensures bound { λ r. ⌜ r < 256 ^ bytesIn (f .width) ⌝ }
+{
+    let off = base + f.offset;
+    let width = f.width;
+    match width {
+        Width::One => get8(s, off) as u64,
+        Width::Two => get16(s, off) as u64,
+        Width::Four => get32(s, off) as u64,
+        Width::Eight => get64(s, off),
+    }
+}
+
+// The place of the first zero, or the length where there is none.
+pub fn first_zero(s: &[u8]) -> usize
+    ensures { λ r. ⌜ r ≡ firstZero (now (s .entry)) ⌝ }
+{
+    let mut i = 0;
+    while i < s.len() {
+        if s[i] == 0 {
+            return i;
+        }
+        i += 1;
+    }
+    i
+}
+
+// Whether `size` bytes from `from` end past `end`.
+pub fn ends_past(from: u64, size: u64, end: u64) -> bool
+    ensures { λ r. ⌜ r ≡ past from size end ⌝ }
+{
+    if end < from {
+        return true;
+    }
+    end - from < size
+}
+
+// The same for an end that may be 2^64: one past `last`.
+pub fn ends_past_last(from: u64, size: u64, last: u64) -> bool
+    ensures { λ r. ⌜ r ≡ past from size (last + 1) ⌝ }
+{
+    if size == 0 {
+        if from == 0 {
+            return false;
+        }
+        return last < from - 1;
+    }
+    if last < from {
+        return true;
+    }
+    last - from < size - 1
+}
