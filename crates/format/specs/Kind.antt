@@ -46,6 +46,23 @@ kindOf flags =
     (cond (eqb (flags / 65536) 0) (lowKind (flags % 65536))
     NotAllowed))
 
+-- the low 16 bits of the flags of a kind; all ones for a deleted section
+abbrev pub flagOf : SectionKind → ℕ
+flagOf Deleted = 0xFFFF
+flagOf Pad = 0x0008
+flagOf Dwarf = 0x0010
+flagOf Text = 0x0020
+flagOf Data = 0x0040
+flagOf Bss = 0x0080
+flagOf Except = 0x0100
+flagOf Info = 0x0200
+flagOf Tdata = 0x0400
+flagOf Tbss = 0x0800
+flagOf Loader = 0x1000
+flagOf Debug = 0x2000
+flagOf Typchk = 0x4000
+flagOf Ovrflo = 0x8000
+
 -- the kinds that have raw data where `s_scnptr` is not 0: not bss, tbss and ovrflo. A deleted section is not examined, so it has none
 abbrev pub hasRawKind : SectionKind → Bool
 hasRawKind Deleted = false

@@ -3,7 +3,7 @@ use Prim.Native.Nat.{ℕ, _^_}
 use mathlib.Core.Bool.{cond}
 use lib.Dec.{eqb}
 use Rattle.word.specs.declared.Field.{Field}
-use Rattle.word.specs.declared.Width.the-variants.{Two, Four, Eight}
+use Rattle.word.specs.declared.Width.the-variants.{One, Two, Four, Eight}
 use Rattle.word.specs.Number.{field}
 use Rattle.format.specs.declared.Format.{Format}
 use Rattle.format.specs.declared.Format.the-variants.{Xcoff32, Xcoff64}
@@ -11,6 +11,9 @@ use Rattle.format.specs.declared.MagicAnswer.{MagicAnswer}
 use Rattle.format.specs.declared.MagicAnswer.the-variants.{Known, Unknown}
 use Rattle.format.specs.declared.HeaderLayout.{HeaderLayout}
 use Rattle.format.specs.declared.SectionLayout.{SectionLayout}
+use Rattle.format.specs.declared.AuxLayout.{AuxLayout}
+use Rattle.format.specs.declared.AuxNumbers.{AuxNumbers}
+use Rattle.format.specs.declared.SymbolLayout.{SymbolLayout}
 
 -- the magic number stands at the same place in both formats
 abbrev pub magicField : Field
@@ -63,7 +66,69 @@ sectionLayout Xcoff64 =
       length = 72;
     }
 
--- a symbol table entry, in both formats
+-- the auxiliary header, which follows the file header: the fields that a module is judged by
+abbrev pub auxLayout : Format → AuxLayout
+auxLayout Xcoff32 =
+    record {
+      tsize = field 4 Four;
+      dsize = field 8 Four;
+      bsize = field 12 Four;
+      entry = field 16 Four;
+      tstart = field 20 Four;
+      dstart = field 24 Four;
+      toc = field 28 Four;
+      length = 72;
+    }
+auxLayout Xcoff64 =
+    record {
+      tsize = field 56 Eight;
+      dsize = field 64 Eight;
+      bsize = field 72 Eight;
+      entry = field 80 Eight;
+      tstart = field 8 Eight;
+      dstart = field 16 Eight;
+      toc = field 24 Eight;
+      length = 110;
+    }
+
+-- its section numbers, at the same places in both formats
+abbrev pub auxNumbers : AuxNumbers
+auxNumbers =
+    record {
+      snentry = field 32 Two;
+      sntext = field 34 Two;
+      sndata = field 36 Two;
+      sntoc = field 38 Two;
+      snloader = field 40 Two;
+      snbss = field 42 Two;
+    }
+
+-- a symbol table entry; `name` and `zeroes` are XCOFF32's short name and its first word
+abbrev pub symbolLayout : Format → SymbolLayout
+symbolLayout Xcoff32 =
+    record {
+      name = field 0 Eight;
+      zeroes = field 0 Four;
+      offset = field 4 Four;
+      value = field 8 Four;
+      scnum = field 12 Two;
+      ntype = field 14 Two;
+      sclass = field 16 One;
+      numaux = field 17 One;
+    }
+symbolLayout Xcoff64 =
+    record {
+      name = field 0 Eight;
+      zeroes = field 0 Four;
+      offset = field 8 Four;
+      value = field 0 Eight;
+      scnum = field 12 Two;
+      ntype = field 14 Two;
+      sclass = field 16 One;
+      numaux = field 17 One;
+    }
+
+-- its length, in both formats
 abbrev pub symbolLength : ℕ
 symbolLength = 18
 

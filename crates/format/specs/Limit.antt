@@ -1,4 +1,4 @@
--- The limits of document 01 that opening judges: what is above one is refused.
+-- The limits of document 01: what is above one is refused.
 use Prim.Native.Nat.{ℕ}
 
 -- LIMIT 0: the file's bytes
@@ -8,3 +8,7 @@ fileLimit = 16777216
 -- LIMIT 1: sections
 abbrev pub sectionLimit : ℕ
 sectionLimit = 32
+
+-- LIMIT 4: the data image's bytes
+abbrev pub dataImageLimit : ℕ
+dataImageLimit = 16777216

@@ -2,16 +2,18 @@
 ghost use mathlib.Core.Path.{_≡_};
 ghost use Prim.Native.Nat.{_+_, _≤_};
 ghost use lib.ListN.{length};
-ghost use Rattle.format.specs.Kind.{kindOf, lowKind, hasRawKind, isPlacedKind};
+ghost use Rattle.format.specs.Kind.{kindOf, lowKind, flagOf, hasRawKind, isPlacedKind};
 ghost use Rattle.word.specs.Number.{bytesIn};
 ghost use Rattle.format.specs.Range.{textIn};
-ghost use Rattle.format.specs.Layout.{formatOf, headerLayout, sectionLayout, addressLimit};
+ghost use Rattle.format.specs.Layout.{formatOf, headerLayout, sectionLayout, auxLayout, auxNumbers, symbolLayout, addressLimit};
 use word::Field;
 
 // What is above a limit is refused.
 pub const FILE_LIMIT: usize = 16777216;
 
 pub const SECTION_LIMIT: u64 = 32;
+
+pub const DATA_IMAGE_LIMIT: u64 = 16777216;
 
 // The bytes of a symbol table entry, in both formats.
 pub const SYMBOL_LENGTH: u64 = 18;
@@ -63,6 +65,40 @@ pub struct SectionLayout {
     pub scnptr: Field,
     pub flags: Field,
     pub length: usize,
+}
+
+// A symbol table entry's numbers. XCOFF32 keeps a short name where its first word, `zeroes`, is not 0; in XCOFF64 that place is the value's.
+pub struct SymbolLayout {
+    pub name: Field,
+    pub zeroes: Field,
+    pub offset: Field,
+    pub value: Field,
+    pub scnum: Field,
+    pub ntype: Field,
+    pub sclass: Field,
+    pub numaux: Field,
+}
+
+// The auxiliary header's numbers that a module is judged by, and the least length that holds them.
+pub struct AuxLayout {
+    pub tsize: Field,
+    pub dsize: Field,
+    pub bsize: Field,
+    pub entry: Field,
+    pub tstart: Field,
+    pub dstart: Field,
+    pub toc: Field,
+    pub length: u64,
+}
+
+// Its section numbers, at the same places in both formats.
+pub struct AuxNumbers {
+    pub snentry: Field,
+    pub sntext: Field,
+    pub sndata: Field,
+    pub sntoc: Field,
+    pub snloader: Field,
+    pub snbss: Field,
 }
 
 pub enum SectionKind {
@@ -152,6 +188,79 @@ pub fn section_layout(f: Format) -> SectionLayout
     }
 }
 
+pub fn aux_layout(f: Format) -> AuxLayout
+    ensures { λ r. ⌜ r ≡ auxLayout f ⌝ }
+{
+    match f {
+        Format::Xcoff32 => AuxLayout {
+            tsize: word::four(4),
+            dsize: word::four(8),
+            bsize: word::four(12),
+            entry: word::four(16),
+            tstart: word::four(20),
+            dstart: word::four(24),
+            toc: word::four(28),
+            length: 72,
+        },
+        Format::Xcoff64 => AuxLayout {
+            tsize: word::eight(56),
+            dsize: word::eight(64),
+            bsize: word::eight(72),
+            entry: word::eight(80),
+            tstart: word::eight(8),
+            dstart: word::eight(16),
+            toc: word::eight(24),
+            length: 110,
+        },
+    }
+}
+
+pub fn aux_numbers() -> AuxNumbers
+    ensures { λ r. ⌜ r ≡ auxNumbers ⌝ }
+{
+    AuxNumbers {
+        snentry: word::two(32),
+        sntext: word::two(34),
+        sndata: word::two(36),
+        sntoc: word::two(38),
+        snloader: word::two(40),
+        snbss: word::two(42),
+    }
+}
+
+pub fn symbol_layout(f: Format) -> SymbolLayout
+    ensures { λ r. ⌜ r ≡ symbolLayout f ⌝ }
+{
+    let name = word::eight(0);
+    let zeroes = word::four(0);
+    let scnum = word::two(12);
+    let ntype = word::two(14);
+    let sclass = word::one(16);
+    let numaux = word::one(17);
+    match f {
+        Format::Xcoff32 => SymbolLayout {
+            name,
+            zeroes,
+            offset: word::four(4),
+            value: word::four(8),
+            scnum,
+            ntype,
+            sclass,
+            numaux,
+        },
+        Format::Xcoff64 => SymbolLayout {
+            name,
+            zeroes,
+            offset: word::four(8),
+            value: word::eight(0),
+            scnum,
+            ntype,
+            sclass,
+            numaux,
+        },
+    }
+}
+
 // The last address: one below 2^32 or 2^64.
 pub fn last_address(f: Format) -> VirtualAddress
     ensures { λ r. ⌜ r .0 + 1 ≡ addressLimit f ⌝ }
@@ -213,6 +322,28 @@ pub fn kind_of(flags: u64) -> KindAnswer
         return KindAnswer::NotAllowed;
     }
     low_kind(low)
+}
+
+// The low 16 bits of the flags of a kind; all ones for a deleted section.
+pub fn flag_of(k: SectionKind) -> u64
+    ensures { λ r. ⌜ r ≡ flagOf k ⌝ }
+{
+    match k {
+        SectionKind::Deleted => 0xFFFF,
+        SectionKind::Pad => 0x0008,
+        SectionKind::Dwarf => 0x0010,
+        SectionKind::Text => 0x0020,
+        SectionKind::Data => 0x0040,
+        SectionKind::Bss => 0x0080,
+        SectionKind::Except => 0x0100,
+        SectionKind::Info => 0x0200,
+        SectionKind::Tdata => 0x0400,
+        SectionKind::Tbss => 0x0800,
+        SectionKind::Loader => 0x1000,
+        SectionKind::Debug => 0x2000,
+        SectionKind::Typchk => 0x4000,
+        SectionKind::Ovrflo => 0x8000,
+    }
 }
 
 // Whether sections of this kind may have raw data in the file.

@@ -2,13 +2,16 @@
 use mathlib.Core.Path.{_≡_}
 use mathlib.Core.Bool.{Bool, true, false, cond}
 use mathlib.Core.List.{List, [], _∷_}
-use Prim.Native.Nat.{ℕ, suc, _+_, _≤_, _<_, suc-le-suc, zero-le}
+use Prim.Native.Nat.{ℕ, zero, suc, _+_, _-_, _≤_, _<_, suc-le-suc, zero-le}
+use native.Mathlib.Decide.{ℕ-discrete, decLe}
+use native.Mathlib.Nat.{add-zero}
 use native.Mathlib.Numerals.{add-one}
+use native.Mathlib.Omega.{arith}
 use borrow.Author.Tests.{ne-eqb}
 use lib.Dec.{eqb}
 use lib.ListN.{length, getD, drop, drop-of-length-le}
 use lib.Seq.{drop-cons}
-use Rattle.word.specs.Zero.{firstZero}
+use Rattle.word.specs.Zero.{firstZero, ZeroEnd}
 
 -- a zero at i, something else at i, and nothing left
 pub zero-here : (s : List ℕ) (i : ℕ) → i < length s → getD s i 0 ≡ 0 → firstZero (drop i s) ≡ 0
@@ -32,3 +35,43 @@ zero-within (x ∷ xs) = by-test (eqb x 0) (zero-within xs)
     by-test : (b : Bool) → firstZero xs ≤ length xs → cond b 0 (suc (firstZero xs)) ≤ suc (length xs)
     by-test true h = zero-le
     by-test false h = suc-le-suc h
+
+-- one place less to look at, for a loop from the end
+pub zeros-less : (s : List ℕ) (i : ℕ) → 0 < i → (getD s (i - 1) 0 ≡ 0 → ⊥) → ((k : ℕ) → i ≤ k → k < length s → getD s k 0 ≡ 0 → ⊥) → (k : ℕ) → i - 1 ≤ k → k < length s → getD s k 0 ≡ 0 → ⊥
+zeros-less s i p n h k a b e = by-place (ℕ-discrete k (i - 1))
+  where
+    by-place : Dec (k ≡ i - 1) → ⊥
+    by-place (yes q) = n (rw q at e)
+    by-place (no q) = h k (omega arith) b e
+
+-- a zero d places after o is found from o
+zero-by : (s : List ℕ) (d o : ℕ) → o + d < length s → getD s (o + d) 0 ≡ 0 → firstZero (drop o s) ≤ d
+zero-by s zero o h e = rw (zero-here s o (omega arith) (rw (add-zero o) at e)) zero-le
+zero-by s (suc d) o h e =
+    let same : o + suc d ≡ o + 1 + d = omega arith in
+    by-first (zero-by s d (o + 1) (omega arith) (rw same at e)) (ℕ-discrete (getD s o 0) 0)
+  where
+    by-first : firstZero (drop (o + 1) s) ≤ d → Dec (getD s o 0 ≡ 0) → firstZero (drop o s) ≤ suc d
+    by-first rest (yes z) = rw (zero-here s o (omega arith) z) zero-le
+    by-first rest (no z) = rw (zero-later s o (omega arith) z) (suc-le-suc rest)
+
+-- where none of n places from o is a zero, none is found among them
+zero-absent : (s : List ℕ) (n o : ℕ) → o + n ≤ length s → ((k : ℕ) → o ≤ k → k < length s → getD s k 0 ≡ 0 → ⊥) → n ≤ firstZero (drop o s)
+zero-absent s zero o h none = zero-le
+zero-absent s (suc n) o h none =
+    rw (zero-later s o (omega arith) (none o (omega arith) (omega arith))) (suc-le-suc (zero-absent s n (o + 1) (omega arith) (λ k a b. none k (omega arith) b)))
+
+-- exactly the places below the last zero's end have a zero at or after them
+pub zero-known : (s : List ℕ) (n o : ℕ) → ZeroEnd s n → o < n → firstZero (drop o s) < length s - o
+zero-known s n o z h =
+    let w = z .within in
+    let place : o + (n - 1 - o) ≡ n - 1 = omega arith in
+    let found = zero-by s (n - 1 - o) o (omega arith) (rw place (z .last (omega arith))) in
+    omega arith
+
+pub zero-unknown : (s : List ℕ) (n o : ℕ) → ZeroEnd s n → n ≤ o → length s - o ≤ firstZero (drop o s)
+zero-unknown s n o z h = by-end (decLe o (length s))
+  where
+    by-end : Dec (o ≤ length s) → length s - o ≤ firstZero (drop o s)
+    by-end (yes l) = zero-absent s (length s - o) o (omega arith) (λ k a b. z .after k (omega arith) b)
+    by-end (no l) = let e : length s - o ≡ 0 = omega arith in rw e zero-le

@@ -3,7 +3,7 @@ ghost use mathlib.Core.Path.{_≡_};
 ghost use Prim.Native.Nat.{_+_, _≤_, _<_, _^_};
 ghost use lib.ListN.{length};
 ghost use Rattle.word.specs.Number.{field, fieldAt, bytesIn, fieldIn};
-ghost use Rattle.word.specs.Zero.{firstZero};
+ghost use Rattle.word.specs.Zero.{firstZero, ZeroEnd};
 ghost use Rattle.word.specs.Test.{past};
 
 // How many bytes a number takes.
@@ -129,6 +129,20 @@ pub fn first_zero(s: &[u8]) -> usize
             return i;
         }
         i += 1;
+    }
+    i
+}
+
+// One past the last zero, or 0 where there is none.
+pub fn zero_end(s: &[u8]) -> usize
+    ensures { λ r. ⌜ ZeroEnd (now (s .entry)) r ⌝ }
+{
+    let mut i = s.len();
+    while 0 < i {
+        if s[i - 1] == 0 {
+            return i;
+        }
+        i -= 1;
     }
     i
 }

@@ -1,0 +1,90 @@
+-- The text that the header lister writes, in bytes.
+use Prim.Native.Nat.{ℕ, suc, _≤_}
+use mathlib.Core.Path.{_≡_}
+use mathlib.Core.List.{List, [], _∷_, _++_}
+use lib.ListN.{length, take}
+use Rattle.format.specs.declared.Format.{Format}
+use Rattle.format.specs.declared.Format.the-variants.{Xcoff32, Xcoff64}
+use Rattle.format.specs.declared.SectionKind.{SectionKind}
+use Rattle.format.specs.declared.SectionKind.the-variants.{Pad, Dwarf, Text, Data, Bss, Except, Info, Tdata, Tbss, Loader, Debug, Typchk, Ovrflo, Deleted}
+use Rattle.refusal.specs.declared.Refusal.{Refusal}
+use Rattle.refusal.specs.Refusal.{numberOf, itemOf}
+use Rattle.refusal.specs.declared.Verdict.{Verdict}
+use Rattle.refusal.specs.declared.Verdict.the-variants.{Accepted, Refused}
+use Rattle.section.specs.declared.Section.{Section}
+use Rattle.header.specs.declared.Summary.{Summary}
+use Rattle.header.specs.Open.{openOf}
+use Rattle.text.specs.Text.{decimal, hex}
+
+abbrev pub blank : List ℕ
+blank = 32 ∷ []
+
+abbrev pub newline : List ℕ
+newline = 10 ∷ []
+
+-- XCOFF32 and XCOFF64
+abbrev pub formatWord : Format → List ℕ
+formatWord Xcoff32 = 88 ∷ 67 ∷ 79 ∷ 70 ∷ 70 ∷ 51 ∷ 50 ∷ []
+formatWord Xcoff64 = 88 ∷ 67 ∷ 79 ∷ 70 ∷ 70 ∷ 54 ∷ 52 ∷ []
+
+-- the digits of an address
+abbrev pub addressDigits : Format → ℕ
+addressDigits Xcoff32 = 8
+addressDigits Xcoff64 = 16
+
+-- the kind as document 01 writes it
+abbrev pub kindWord : SectionKind → List ℕ
+kindWord Pad = 112 ∷ 97 ∷ 100 ∷ []
+kindWord Dwarf = 100 ∷ 119 ∷ 97 ∷ 114 ∷ 102 ∷ []
+kindWord Text = 116 ∷ 101 ∷ 120 ∷ 116 ∷ []
+kindWord Data = 100 ∷ 97 ∷ 116 ∷ 97 ∷ []
+kindWord Bss = 98 ∷ 115 ∷ 115 ∷ []
+kindWord Except = 101 ∷ 120 ∷ 99 ∷ 101 ∷ 112 ∷ 116 ∷ []
+kindWord Info = 105 ∷ 110 ∷ 102 ∷ 111 ∷ []
+kindWord Tdata = 116 ∷ 100 ∷ 97 ∷ 116 ∷ 97 ∷ []
+kindWord Tbss = 116 ∷ 98 ∷ 115 ∷ 115 ∷ []
+kindWord Loader = 108 ∷ 111 ∷ 97 ∷ 100 ∷ 101 ∷ 114 ∷ []
+kindWord Debug = 100 ∷ 101 ∷ 98 ∷ 117 ∷ 103 ∷ []
+kindWord Typchk = 116 ∷ 121 ∷ 112 ∷ 99 ∷ 104 ∷ 107 ∷ []
+kindWord Ovrflo = 111 ∷ 118 ∷ 114 ∷ 102 ∷ 108 ∷ 111 ∷ []
+kindWord Deleted = 100 ∷ 101 ∷ 108 ∷ 101 ∷ 116 ∷ 101 ∷ 100 ∷ []
+
+-- refused
+abbrev pub refusedWord : List ℕ
+refusedWord = 114 ∷ 101 ∷ 102 ∷ 117 ∷ 115 ∷ 101 ∷ 100 ∷ []
+
+-- format, sections, symbol entries
+unfoldable pub fileLine : Format → ℕ → ℕ → List ℕ
+fileLine f sections symbols = formatWord f ++ blank ++ decimal sections ++ blank ++ decimal symbols ++ newline
+
+-- number, kind, `s_paddr`, size
+unfoldable pub sectionLine : Format → ℕ → Section → List ℕ
+sectionLine f n s =
+    decimal n ++ blank
+    ++ kindWord (s .kind) ++ blank
+    ++ hex (addressDigits f) (s .paddr .0) ++ blank
+    ++ decimal (s .size) ++ newline
+
+-- a line for each section, from number n on
+unfoldable pub sectionLines : Format → ℕ → List Section → List ℕ
+sectionLines f n [] = []
+sectionLines f n (s ∷ t) = sectionLine f n s ++ sectionLines f (suc n) t
+
+-- number and item
+unfoldable pub refusalLine : Refusal → List ℕ
+refusalLine x = refusedWord ++ blank ++ decimal (numberOf x) ++ blank ++ decimal (itemOf x) ++ newline
+
+unfoldable pub summaryText : Summary → List ℕ
+summaryText y = fileLine (y .format) (y .count) (y .symbols .count) ++ sectionLines (y .format) 1 (take (y .count) (y .sections))
+
+unfoldable pub listingBy : Summary → Verdict → List ℕ
+listingBy y Accepted = summaryText y
+listingBy y (Refused x) = refusalLine x
+
+-- the text for a file
+unfoldable pub listing : List ℕ → List ℕ
+listing file = listingBy (openOf file .summary) (openOf file .verdict)
+
+-- n counts bytes at the start of bs: the two forms in which lending them asks it
+abbrev pub Counts : ℕ → List ℕ → Type 0
+Counts n bs = (n ≤ length bs) × (n ≡ length (take n bs))
