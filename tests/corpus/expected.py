@@ -60,12 +60,13 @@ def expected(header, sections):
         sys.exit("number of sections")
     lines = ["%s %d %d" % (name, len(sections), number(header["SymbolTableEntries"]))]
     for index, section in enumerate(sections, 1):
-        kind = KINDS.get(number(section["Type"]))
-        size = number(section["Size"])
-        # Of an overflow section llvm-readobj prints s_paddr as NumberOfRelocations.
-        address = number(section["NumberOfRelocations" if kind == "ovrflo" else "PhysicalAddress"])
+        # A deleted section has no Type line (`Flags: Reserved`, half of them); none is in the corpus.
+        kind = KINDS.get(number(section.get("Type", "0")))
         if kind is None or number(section["Index"]) != index:
             sys.exit("section %d: type or index" % index)
+        # Of an overflow section llvm-readobj prints s_paddr as NumberOfRelocations.
+        address = number(section["NumberOfRelocations" if kind == "ovrflo" else "PhysicalAddress"])
+        size = number(section["Size"])
         if kind in ("text", "data", "bss") and (
                 address != number(section["VirtualAddress"]) or address + size > 16 ** digits):
             sys.exit("section %d: address" % index)

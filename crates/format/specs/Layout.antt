@@ -14,6 +14,8 @@ use Rattle.format.specs.declared.SectionLayout.{SectionLayout}
 use Rattle.format.specs.declared.AuxLayout.{AuxLayout}
 use Rattle.format.specs.declared.AuxNumbers.{AuxNumbers}
 use Rattle.format.specs.declared.SymbolLayout.{SymbolLayout}
+use Rattle.format.specs.declared.LoaderLayout.{LoaderLayout}
+use Rattle.format.specs.declared.RelocationLayout.{RelocationLayout}
 
 -- the magic number stands at the same place in both formats
 abbrev pub magicField : Field
@@ -131,6 +133,20 @@ symbolLayout Xcoff64 =
 -- its length, in both formats
 abbrev pub symbolLength : ℕ
 symbolLength = 18
+
+-- the loader header: where the two formats differ; its first five numbers stand at 0, 4, 8, 12 and 16, each 4 bytes
+abbrev pub loaderLayout : Format → LoaderLayout
+loaderLayout Xcoff32 = record { impoff = field 20 Four; stlen = field 24 Four; stoff = field 28 Four; length = 32 }
+loaderLayout Xcoff64 = record { impoff = field 24 Eight; stlen = field 20 Four; stoff = field 32 Eight; length = 56 }
+
+-- a loader symbol's length, in both formats
+abbrev pub loaderSymbolLength : ℕ
+loaderSymbolLength = 24
+
+-- a loader relocation entry; its type stands at 8 and its section at 10, each 2 bytes
+abbrev pub relocationLayout : Format → RelocationLayout
+relocationLayout Xcoff32 = record { address = field 0 Four; symbol = field 4 Four; length = 12 }
+relocationLayout Xcoff64 = record { address = field 0 Eight; symbol = field 12 Four; length = 16 }
 
 -- the end of the address space
 abbrev pub addressLimit : Format → ℕ

@@ -1,5 +1,6 @@
 -- What the contracts of `format` cite.
 pub mod Limit
 pub mod Layout
+pub mod Name
 pub mod Kind
 pub mod Range

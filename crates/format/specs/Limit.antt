@@ -9,6 +9,14 @@ fileLimit = 16777216
 abbrev pub sectionLimit : ℕ
 sectionLimit = 32
 
+-- LIMIT 2: loader symbols
+abbrev pub loaderSymbolLimit : ℕ
+loaderSymbolLimit = 4096
+
+-- LIMIT 3: relocation entries
+abbrev pub relocationLimit : ℕ
+relocationLimit = 4096
+
 -- LIMIT 4: the data image's bytes
 abbrev pub dataImageLimit : ℕ
 dataImageLimit = 16777216

@@ -4,8 +4,9 @@ ghost use Prim.Native.Nat.{_+_, _≤_};
 ghost use lib.ListN.{length};
 ghost use Rattle.format.specs.Kind.{kindOf, lowKind, flagOf, hasRawKind, isPlacedKind};
 ghost use Rattle.word.specs.Number.{bytesIn};
+ghost use Rattle.format.specs.Name.{nameField};
 ghost use Rattle.format.specs.Range.{textIn};
-ghost use Rattle.format.specs.Layout.{formatOf, headerLayout, sectionLayout, auxLayout, auxNumbers, symbolLayout, addressLimit};
+ghost use Rattle.format.specs.Layout.{formatOf, headerLayout, sectionLayout, auxLayout, auxNumbers, symbolLayout, loaderLayout, relocationLayout, addressLimit};
 use word::Field;
 
 // What is above a limit is refused.
@@ -13,10 +14,17 @@ pub const FILE_LIMIT: usize = 16777216;
 
 pub const SECTION_LIMIT: u64 = 32;
 
+pub const LOADER_SYMBOL_LIMIT: u64 = 4096;
+
+pub const RELOCATION_LIMIT: u64 = 4096;
+
 pub const DATA_IMAGE_LIMIT: u64 = 16777216;
 
 // The bytes of a symbol table entry, in both formats.
 pub const SYMBOL_LENGTH: u64 = 18;
+
+// The bytes of a loader symbol, in both formats.
+pub const LOADER_SYMBOL_LENGTH: u64 = 24;
 
 // An address in the card's memory.
 pub struct VirtualAddress(pub u64);
@@ -99,6 +107,27 @@ pub struct AuxNumbers {
     pub sntoc: Field,
     pub snloader: Field,
     pub snbss: Field,
+}
+
+// The name of a symbol: in its entry itself, or at an offset of a string table.
+pub enum NameField {
+    Short,
+    Offset(u64),
+}
+
+// The loader header's numbers, and how long it is. In XCOFF32 symbols and relocations have fixed places.
+pub struct LoaderLayout {
+    pub impoff: Field,
+    pub stlen: Field,
+    pub stoff: Field,
+    pub length: u64,
+}
+
+// A loader relocation entry's numbers, and how long it is.
+pub struct RelocationLayout {
+    pub address: Field,
+    pub symbol: Field,
+    pub length: u64,
 }
 
 pub enum SectionKind {
@@ -258,6 +287,61 @@ pub fn symbol_layout(f: Format) -> SymbolLayout
             sclass,
             numaux,
         },
+    }
+}
+
+pub fn loader_layout(f: Format) -> LoaderLayout
+    ensures { λ r. ⌜ r ≡ loaderLayout f ⌝ }
+{
+    match f {
+        Format::Xcoff32 => LoaderLayout {
+            impoff: word::four(20),
+            stlen: word::four(24),
+            stoff: word::four(28),
+            length: 32,
+        },
+        Format::Xcoff64 => LoaderLayout {
+            impoff: word::eight(24),
+            stlen: word::four(20),
+            stoff: word::eight(32),
+            length: 56,
+        },
+    }
+}
+
+pub fn relocation_layout(f: Format) -> RelocationLayout
+    ensures { λ r. ⌜ r ≡ relocationLayout f ⌝ }
+{
+    match f {
+        Format::Xcoff32 => RelocationLayout {
+            address: word::four(0),
+            symbol: word::four(4),
+            length: 12,
+        },
+        Format::Xcoff64 => RelocationLayout {
+            address: word::eight(0),
+            symbol: word::four(12),
+            length: 16,
+        },
+    }
+}
+
+// The name of the entry at `base` of the symbol table or of the loader's: both keep it at the same places.
+pub fn read_name_field(file: &[u8], f: Format, base: usize) -> NameField
+    requires { ⌜ base + 12 ≤ length (now file) ⌝ }
+    ensures { λ r. ⌜ r ≡ nameField f base (now (file .entry)) ⌝ }
+{
+    let l = symbol_layout(f);
+    let offset = l.offset;
+    match f {
+        Format::Xcoff32 => {
+            let zeroes = l.zeroes;
+            if word::read_field(file, base, zeroes) == 0 {
+                return NameField::Offset(word::read_field(file, base, offset));
+            }
+            NameField::Short
+        }
+        Format::Xcoff64 => NameField::Offset(word::read_field(file, base, offset)),
     }
 }
 

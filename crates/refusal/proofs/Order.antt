@@ -44,6 +44,10 @@ test-passed x w e h = rw e h
 pub test-refused : {b : Bool} (x : Refusal) (w : Verdict) → b ≡ true → Refused x ≡ (refuseIf b x orElse w)
 test-refused x w e = rw e
 
+pub refused-if : (b : Bool) (x : Refusal) → isRefused (refuseIf b x) ≡ b
+refused-if true x = refl
+refused-if false x = refl
+
 -- both parts of an order that accepts accept
 pub accepted-first : (v w : Verdict) → (v orElse w) ≡ Accepted → v ≡ Accepted
 accepted-first Accepted w e = refl

@@ -11,7 +11,7 @@ use borrow.Author.Tests.{ne-eqb}
 use lib.Dec.{eqb}
 use lib.ListN.{length, getD, drop, drop-of-length-le}
 use lib.Seq.{drop-cons}
-use Rattle.word.specs.Zero.{firstZero, ZeroEnd}
+use Rattle.word.specs.Zero.{firstZero, zerosIn, ZeroEnd}
 
 -- a zero at i, something else at i, and nothing left
 pub zero-here : (s : List ℕ) (i : ℕ) → i < length s → getD s i 0 ≡ 0 → firstZero (drop i s) ≡ 0
@@ -25,6 +25,29 @@ zero-later s i h n = rw (add-one, drop-cons s i 0, ne-eqb (getD s i 0) 0 n)
 pub zero-none : (s : List ℕ) (i : ℕ) → length s ≤ i → firstZero (drop i s) ≡ 0
 unfolding firstZero
 zero-none s i h = rw (drop-of-length-le s h)
+
+-- one element more is counted
+pub zeros-more : (s : List ℕ) (i : ℕ) → i < length s → zerosIn (drop i s) ≡ zerosIn (getD s i 0 ∷ []) + zerosIn (drop (i + 1) s)
+unfolding zerosIn
+zeros-more s i h = rw (add-one, drop-cons s i 0) (by-test (eqb (getD s i 0) 0) (zerosIn (drop (suc i) s)))
+  where
+    by-test : (b : Bool) (n : ℕ) → cond b (suc n) n ≡ cond b 1 0 + n
+    by-test true n = omega arith
+    by-test false n = omega arith
+
+pub zeros-end : (s : List ℕ) (i : ℕ) → length s ≤ i → zerosIn (drop i s) ≡ 0
+unfolding zerosIn
+zeros-end s i h = rw (drop-of-length-le s h)
+
+-- there are no more than elements
+pub zeros-few : (s : List ℕ) → zerosIn s ≤ length s
+unfolding zerosIn
+zeros-few [] = zero-le
+zeros-few (x ∷ xs) = by-test (eqb x 0) (zeros-few xs)
+  where
+    by-test : (b : Bool) → zerosIn xs ≤ length xs → cond b (suc (zerosIn xs)) (zerosIn xs) ≤ suc (length xs)
+    by-test true h = suc-le-suc h
+    by-test false h = omega arith
 
 -- it is never past the end
 pub zero-within : (s : List ℕ) → firstZero s ≤ length s

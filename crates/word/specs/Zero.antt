@@ -11,6 +11,11 @@ unfoldable pub firstZero : List ℕ → ℕ
 firstZero [] = 0
 firstZero (x ∷ xs) = cond (eqb x 0) 0 (suc (firstZero xs))
 
+-- how many zeros there are
+unfoldable pub zerosIn : List ℕ → ℕ
+zerosIn [] = 0
+zerosIn (x ∷ xs) = cond (eqb x 0) (suc (zerosIn xs)) (zerosIn xs)
+
 -- n is one past the last zero of s, or 0 where there is none
 pub record ZeroEnd (s : List ℕ) (n : ℕ) : Type 0 where
   pub within : n ≤ length s

@@ -1,9 +1,10 @@
 // Numbers in bytes: big-endian reads, the first zero of a slice, and sums compared in exact arithmetic.
 ghost use mathlib.Core.Path.{_≡_};
+ghost use mathlib.Core.List.{[], _∷_};
 ghost use Prim.Native.Nat.{_+_, _≤_, _<_, _^_};
 ghost use lib.ListN.{length};
 ghost use Rattle.word.specs.Number.{field, fieldAt, bytesIn, fieldIn};
-ghost use Rattle.word.specs.Zero.{firstZero, ZeroEnd};
+ghost use Rattle.word.specs.Zero.{firstZero, zerosIn, ZeroEnd};
 ghost use Rattle.word.specs.Test.{past};
 
 // How many bytes a number takes.
@@ -131,6 +132,24 @@ pub fn first_zero(s: &[u8]) -> usize
         i += 1;
     }
     i
+}
+
+pub fn count_zeros(s: &[u8]) -> usize
+    ensures { λ r. ⌜ r ≡ zerosIn (now (s .entry)) ⌝ }
+{
+    let mut n = 0;
+    let mut i = 0;
+    while i < s.len() {
+        n = n + zero_bit(s[i]);
+        i += 1;
+    }
+    n
+}
+
+fn zero_bit(b: u8) -> usize
+    ensures { λ r. ⌜ r ≡ zerosIn (b ∷ []) ⌝ }
+{
+    if b == 0 { 1 } else { 0 }
 }
 
 // One past the last zero, or 0 where there is none.

@@ -1,37 +1,25 @@
-use mathlib.Core.Path.{_≡_, _∙_, ap, ap₂, sym, refl, subst}
-use native.Mathlib.Omega.{arith}
 use borrow.Author.Needs.{needs}
 use Rattle.format.proofs.aux_numbers.Statement.{statement}
 use Rattle.format.proofs.aux_numbers.Tie as tie
-use Rattle.format.proofs.aux_numbers.Reads as reads
-use Rattle.format.proofs.aux_numbers.Lts as lts
-use Rattle.word.proofs.two.Reads as two-reads
 
--- src/lib.rt:222:18
 two-requires : tie.Need-two-requires
 two-requires c κs = search needs
 
--- src/lib.rt:223:17
 two-requires-2 : tie.Need-two-requires-2
 two-requires-2 c κs = search needs
 
--- src/lib.rt:224:17
 two-requires-3 : tie.Need-two-requires-3
 two-requires-3 c κs = search needs
 
--- src/lib.rt:225:16
 two-requires-4 : tie.Need-two-requires-4
 two-requires-4 c κs = search needs
 
--- src/lib.rt:226:19
 two-requires-5 : tie.Need-two-requires-5
 two-requires-5 c κs = search needs
 
--- src/lib.rt:227:16
 two-requires-6 : tie.Need-two-requires-6
 two-requires-6 c κs = search needs
 
--- src/lib.rt:218:1
 returns : tie.Need-returns
 returns c = cc
 

@@ -1,14 +1,11 @@
 use Prim.Native.Nat.{ℕ, _≤_, _<_}
 use mathlib.Core.Path.{_≡_}
-use Rattle.word.proofs.Zero.{zeros-less}
 use lib.ListN.{length, getD}
-use mathlib.Core.Path.{_∙_, ap, ap₂, sym, refl, subst}
 use borrow.Author.Needs.{needs}
 use native.Mathlib.Omega.{arith}
+use Rattle.word.proofs.Zero.{zeros-less}
 use Rattle.word.proofs.zero_end.Statement.{statement}
 use Rattle.word.proofs.zero_end.Tie as tie
-use Rattle.word.proofs.zero_end.Reads as reads
-use Rattle.word.proofs.zero_end.Lts as lts
 
 abbrev Inv-loop : tie.InvT-loop
 Inv-loop s i₀ i = (i ≤ length s) × ((k : ℕ) → i ≤ k → k < length s → getD s k 0 ≡ 0 → ⊥)
@@ -16,35 +13,27 @@ Inv-loop s i₀ i = (i ≤ length s) × ((k : ℕ) → i ≤ k → k < length s 
 abbrev μ-loop : tie.MeasureT-loop
 μ-loop s i₀ i = i
 
--- src/lib.rt:141:5
 loop-holds : tie.Need-loop-holds Inv-loop μ-loop
 loop-holds c = (search needs, λ k a b e. absurd (omega arith))
 
--- src/lib.rt:142:14
 sub-if1 : tie.Need-sub-if1 Inv-loop μ-loop
 sub-if1 c = search needs
 
--- src/lib.rt:142:12
 shared-slice-read-if1 : tie.Need-shared-slice-read-if1 Inv-loop μ-loop
 shared-slice-read-if1 c = search needs
 
--- src/lib.rt:143:13
 returns : tie.Need-returns Inv-loop μ-loop
 returns c = record { within = search needs; after = c .before .before .before .loop .inv .1; last = λ _. c .if1 .taken }
 
--- src/lib.rt:145:9
 sub-i : tie.Need-sub-i Inv-loop μ-loop
 sub-i c = search needs
 
--- src/lib.rt:141:5
 loop-less : tie.Need-loop-less Inv-loop μ-loop
 loop-less c = search needs
 
--- src/lib.rt:141:5
 loop-again : tie.Need-loop-again Inv-loop μ-loop
 loop-again c = (search needs, zeros-less (c .before .before .before .before .args .s .now) (c .before .before .before .loop .i) (c .before .before .loop-test .taken) (c .if1 .left) (c .before .before .before .loop .inv .1))
 
--- src/lib.rt:137:1
 returns-2 : tie.Need-returns-2 Inv-loop μ-loop
 returns-2 c = record { within = search needs; after = c .before .loop .inv .1; last = λ h. absurd (omega arith) }
 

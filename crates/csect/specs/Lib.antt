@@ -1,0 +1,2 @@
+-- What the contracts of `csect` cite.
+pub mod Csect

@@ -1,0 +1,124 @@
+-- What the checks of the loader section leave known. Assumes nothing.
+use Prim.Native.Nat.{ℕ, _+_, _*_, _≤_}
+use mathlib.Core.Path.{_≡_, refl, sym, _∙_}
+use mathlib.Core.Bool.{Bool, true, false, not, _||_}
+use mathlib.Core.List.{List}
+use native.Mathlib.Decide.{ℕ-discrete}
+use native.Mathlib.Omega.{arith}
+use lib.Dec.{eqb, ltb}
+use lib.ListN.{length}
+use borrow.Author.Tests.{le-ltb, ltb-false}
+use Rattle.word.specs.Zero.{zerosIn}
+use Rattle.format.specs.declared.Format.{Format}
+use Rattle.format.specs.Layout.{loaderLayout, loaderSymbolLength, relocationLayout}
+use Rattle.format.specs.Limit.{fileLimit, loaderSymbolLimit, relocationLimit}
+use Rattle.format.specs.Range.{bytesOf}
+use Rattle.refusal.specs.declared.Refusal.the-variants.{Loader}
+use Rattle.refusal.specs.declared.LoaderItem.the-variants.{ShortHeader}
+use Rattle.refusal.specs.declared.Verdict.{Verdict}
+use Rattle.refusal.specs.declared.Verdict.the-variants.{Accepted}
+use Rattle.refusal.specs.Refusal.{isRefused}
+use Rattle.refusal.specs.Order.{_orElse_, refuseIf}
+use Rattle.refusal.proofs.Order.{test-passed, go-on, stop, accepted-first, accepted-rest, accepted-test}
+use Rattle.loader.specs.declared.LoaderHeader.{LoaderHeader}
+use Rattle.loader.specs.Header.{loaderHeaderAt, tablePast, numbersCheck, placeOf, tablesOf, placesCheck, headerCheck, LoaderRoom, PlacesGood}
+use Rattle.loader.specs.Symbol.{TablesInside}
+use Rattle.loader.proofs.Places.{header-long, table-in, place-empty, place-full}
+
+-- the answer by the checks that were made
+module _ (file : List ℕ) (f : Format) (start size : ℕ) (l : loaderLayout f .length ≤ size) {h : LoaderHeader} (e : h ≡ loaderHeaderAt f start file) where
+  pub by-numbers : {v : Verdict} → v ≡ numbersCheck h → isRefused v ≡ true → v ≡ headerCheck file f start size
+  unfolding headerCheck
+  by-numbers {v} k r =
+      test-passed _ _ (le-ltb size (loaderLayout f .length) l)
+      (let q : v ≡ numbersCheck (loaderHeaderAt f start file) = rw e at k in rw (← q) (sym (stop v _ r)))
+
+  pub by-places : {v w : Verdict} → v ≡ numbersCheck h → isRefused v ≡ false → w ≡ placesCheck file f start size h → w ≡ headerCheck file f start size
+  unfolding headerCheck
+  by-places {v} {w} k r p =
+      test-passed _ _ (le-ltb size (loaderLayout f .length) l)
+      (let q : v ≡ numbersCheck (loaderHeaderAt f start file) = rw e at k in rw (← q) (rw e at p ∙ sym (go-on v _ r)))
+
+-- what an accepted section has
+module _ (file : List ℕ) (f : Format) (start size : ℕ) (e : headerCheck file f start size ≡ Accepted) where
+  tests : (refuseIf (ltb size (loaderLayout f .length)) (Loader ShortHeader) orElse numbersCheck (loaderHeaderAt f start file) orElse placesCheck file f start size (loaderHeaderAt f start file)) ≡ Accepted
+  unfolding headerCheck
+  tests = e
+
+  pub long-enough : loaderLayout f .length ≤ size
+  long-enough = ltb-false size (loaderLayout f .length) (accepted-test (ltb size (loaderLayout f .length)) _ (accepted-first (refuseIf (ltb size (loaderLayout f .length)) (Loader ShortHeader)) _ tests))
+
+  pub numbers-good : numbersCheck (loaderHeaderAt f start file) ≡ Accepted
+  numbers-good = accepted-first (numbersCheck (loaderHeaderAt f start file)) _ (accepted-rest (refuseIf (ltb size (loaderLayout f .length)) (Loader ShortHeader)) _ tests)
+
+  pub places-good : placesCheck file f start size (loaderHeaderAt f start file) ≡ Accepted
+  places-good = accepted-rest (numbersCheck (loaderHeaderAt f start file)) _ (accepted-rest (refuseIf (ltb size (loaderLayout f .length)) (Loader ShortHeader)) _ tests)
+
+-- the limits
+module _ (h : LoaderHeader) (e : numbersCheck h ≡ Accepted) where
+  pub few : (h .nsyms ≤ loaderSymbolLimit) × (h .nreloc ≤ relocationLimit)
+  few = unfold numbersCheck in
+      let r = accepted-rest (refuseIf (not (eqb (h .version) 1 || eqb (h .version) 2)) _) _ e in (
+        ltb-false loaderSymbolLimit (h .nsyms) (accepted-test (ltb loaderSymbolLimit (h .nsyms)) _ (accepted-first (refuseIf (ltb loaderSymbolLimit (h .nsyms)) _) _ r)),
+        ltb-false relocationLimit (h .nreloc) (accepted-test (ltb relocationLimit (h .nreloc)) _ (accepted-rest (refuseIf (ltb loaderSymbolLimit (h .nsyms)) _) _ r)),
+      )
+
+or-first : (a b : Bool) → (a || b) ≡ false → a ≡ false
+or-first true b e = e
+or-first false b e = refl
+
+-- the places
+pub places-known : (file : List ℕ) (f : Format) (start size : ℕ) (h : LoaderHeader) → placesCheck file f start size h ≡ Accepted → start + size ≤ fileLimit → PlacesGood f start size h
+unfolding placesCheck
+places-known file f start size h e room =
+    let a = tablePast (h .symoff) (h .nsyms * loaderSymbolLength) size in
+    let b = tablePast (h .rldoff) (h .nreloc * relocationLayout f .length) size in
+    let c = tablePast (h .impoff) (h .istlen) size in
+    let z = ltb (zerosIn (bytesOf file (tablesOf f start h .ids))) (3 * h .nimpid) in
+    let d = tablePast (h .stoff) (h .stlen) size in
+    let r1 = accepted-rest (refuseIf a _) _ e in
+    let r2 = accepted-rest (refuseIf b _) _ r1 in
+    let r3 = accepted-rest (refuseIf (c || z) _) _ r2 in
+    record {
+      room = room;
+      symbols = accepted-test a _ (accepted-first (refuseIf a _) _ e);
+      relocations = accepted-test b _ (accepted-first (refuseIf b _) _ r1);
+      ids = or-first c z (accepted-test (c || z) _ (accepted-first (refuseIf (c || z) _) _ r2));
+      strings = accepted-test d _ r3;
+    }
+
+-- a table at its place ends in the file
+table-at : (start off len size n : ℕ) → start + size ≤ n → tablePast off len size ≡ false → Dec (len ≡ 0) → placeOf start off len + len ≤ n
+table-at start off len size n r e (yes z) = rw (place-empty start off len z) (omega arith)
+table-at start off len size n r e (no z) = rw (place-full start off len z) (omega (arith, table-in off len size e z))
+
+pub tables-inside : (file : List ℕ) (f : Format) (start size : ℕ) (h : LoaderHeader) → length file ≤ fileLimit → start + size ≤ length file → h .nsyms ≤ loaderSymbolLimit → PlacesGood f start size h → TablesInside file (tablesOf f start h)
+unfolding tablesOf
+tables-inside file f start size h l r n p =
+    record {
+      small = l;
+      few = n;
+      symbols = table-at start (h .symoff) (h .nsyms * loaderSymbolLength) size (length file) r (p .symbols) (ℕ-discrete (h .nsyms * loaderSymbolLength) 0);
+      ids = table-at start (h .impoff) (h .istlen) size (length file) r (p .ids) (ℕ-discrete (h .istlen) 0);
+      strings = table-at start (h .stoff) (h .stlen) size (length file) r (p .strings) (ℕ-discrete (h .stlen) 0);
+    }
+
+-- all that is known of a section whose header and tables are accepted
+pub record Known (file : List ℕ) (f : Format) (start size : ℕ) : Type 0 where
+  pub header : start + loaderLayout f .length ≤ length file
+  pub places : PlacesGood f start size (loaderHeaderAt f start file)
+  pub tables : TablesInside file (tablesOf f start (loaderHeaderAt f start file))
+
+pub loader-known : (file : List ℕ) (f : Format) (start size : ℕ) → headerCheck file f start size ≡ Accepted → LoaderRoom (length file) start size → Known file f start size
+loader-known file f start size e room =
+    let h = loaderHeaderAt f start file in
+    let long = long-enough file f start size e in
+    let bytes = header-long f in
+    let inside = room .inside (omega arith) in
+    let small = room .small in
+    let places = places-known file f start size h (places-good file f start size e) (omega arith) in
+    record {
+      header = omega arith;
+      places = places;
+      tables = tables-inside file f start size h small inside (few h (numbers-good file f start size e) .0) places;
+    }

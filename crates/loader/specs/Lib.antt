@@ -1,0 +1,4 @@
+-- What the contracts of `loader` cite.
+pub mod Header
+pub mod Symbol
+pub mod Loader

@@ -1,0 +1,4 @@
+-- What the contracts of `module` cite.
+pub mod Sections
+pub mod Auxiliary
+pub mod Module

@@ -1,0 +1,2 @@
+-- What the contracts of `relocation` cite.
+pub mod Relocation

@@ -1,0 +1,5 @@
+-- What the contracts of `symbol` cite.
+pub mod Entry
+pub mod Name
+pub mod Symbol
+pub mod Walk
