@@ -1,7 +1,7 @@
 -- The laws of the csect answers. Assumes nothing.
 use Prim.Native.Nat.{ℕ, _≤_, _<_}
 use mathlib.Core.Path.{_≡_, refl, sym, ap}
-use mathlib.Core.Bool.{true, false, and-false}
+use mathlib.Core.Bool.{true, false, cond, and-false}
 use mathlib.Core.List.{List, [], _∷_}
 use borrow.Author.Tests.{lt-ltb, le-ltb}
 use lib.Dec.{ltb}
@@ -49,13 +49,12 @@ module _ (file : List ℕ) (t : Tables) (i : SymbolIndex) (c : Csect) where
 
 -- an entry's own csect, with its container and without
 module _ (file : List ℕ) (t : Tables) (i : SymbolIndex) {a : CsectAnswer} {c : Csect} {k : CsectType} (e : a ≡ ownAfter file t i (symbolIn file t i)) (f : a ≡ Found c) (q : c .kind ≡ k) where
-  pub csect-contained : isContained file t i c k ≡ true → Found c ≡ csectIn file t i
+  pub csect-by : cond (isContained file t i c k) (Found c) (Refused (refusal.Csect i)) ≡ csectIn file t i
   unfolding csectIn csectAfter contained
-  csect-contained h = rw (← e, f, rw (← q) at h)
+  csect-by = rw (← e, f, q)
 
-  pub csect-loose : isContained file t i c k ≡ false → Refused (refusal.Csect i) ≡ csectIn file t i
-  unfolding csectIn csectAfter contained
-  csect-loose h = rw (← e, f, rw (← q) at h)
+  pub csect-contained : isContained file t i c k ≡ true → Found c ≡ csectIn file t i
+  csect-contained h = rw (← csect-by, h)
 
 -- the answer for a file
 module _ (file : List ℕ) (i : SymbolIndex) where

@@ -1,12 +1,13 @@
 // The csect entry of a symbol: its last auxiliary.
 ghost use mathlib.Core.Path.{_≡_};
+ghost use mathlib.Core.Bool.{cond};
 ghost use Prim.Native.Nat.{_+_, _%_, _≤_};
 ghost use lib.ListN.{length};
 ghost use Rattle.format.specs.Layout.{symbolLength};
 ghost use Rattle.format.specs.Range.{bytesOf};
 ghost use Rattle.word.specs.Zero.{ZeroEnd};
 ghost use Rattle.symbol.specs.Entry.{TablesInside};
-ghost use Rattle.csect.specs.Csect.{lengthAt, auxAt, carriesCsect, isMarked, typeOf, isMappingClass, isMapped, typedCsect, ownAfter, isContained, csectIn, csectAt, reportOfCsect, csectReport};
+ghost use Rattle.csect.specs.Csect.{lengthAt, auxAt, carriesCsect, isMarked, typeOf, isMappingClass, isMapped, typedCsect, ownAfter, isContained, isSd, csectIn, csectAt, reportOfCsect, csectReport};
 ghost use Rattle.symbol.specs.Symbol.{symbolIn};
 use format::Format;
 use format::SymbolIndex;
@@ -189,19 +190,13 @@ fn own_csect(file: &[u8], t: Tables, ends: u64, i: SymbolIndex) -> CsectAnswer
     judge_csect(f, i, s, a)
 }
 
-// Whether the entry at an LD's length reads as an SD csect of a smaller index.
-fn is_label_contained(file: &[u8], t: Tables, ends: u64, i: SymbolIndex, c: Csect) -> bool
-    requires { ⌜ TablesInside (now file) t × ZeroEnd (bytesOf (now file) (t .strings)) ends ⌝ }
-    ensures { λ r. ⌜ r ≡ isContained (now (file .entry)) t i c CsectType.Ld ⌝ }
+fn is_sd(a: CsectAnswer) -> bool
+    ensures { λ r. ⌜ r ≡ isSd a ⌝ }
 {
-    if i.0 <= c.length {
-        return false;
-    }
-    let a = own_csect(file, t, ends, SymbolIndex(c.length));
     match a {
         CsectAnswer::Refused(_) => false,
-        CsectAnswer::Found(d) => {
-            let k = d.kind;
+        CsectAnswer::Found(c) => {
+            let k = c.kind;
             match k {
                 CsectType::Er => false,
                 CsectType::Sd => true,
@@ -210,6 +205,21 @@ fn is_label_contained(file: &[u8], t: Tables, ends: u64, i: SymbolIndex, c: Csec
             }
         }
     }
+}
+
+// An LD with its container: the entry at its length must read as an SD csect of a smaller index.
+fn judge_label(file: &[u8], t: Tables, ends: u64, i: SymbolIndex, c: Csect) -> CsectAnswer
+    requires { ⌜ TablesInside (now file) t × ZeroEnd (bytesOf (now file) (t .strings)) ends ⌝ }
+    ensures { λ r. ⌜ r ≡ cond (isContained (now (file .entry)) t i c CsectType.Ld) (CsectAnswer.Found c) (CsectAnswer.Refused (Refusal.Csect i)) ⌝ }
+{
+    if i.0 <= c.length {
+        return CsectAnswer::Refused(Refusal::Csect(i));
+    }
+    let container = own_csect(file, t, ends, SymbolIndex(c.length));
+    if is_sd(container) {
+        return CsectAnswer::Found(c);
+    }
+    CsectAnswer::Refused(Refusal::Csect(i))
 }
 
 // The csect entry of the symbol at an index of a file that is open.
@@ -225,10 +235,7 @@ pub fn csect_in(file: &[u8], t: Tables, ends: u64, i: SymbolIndex) -> CsectAnswe
     let CsectType::Ld = k else {
         return CsectAnswer::Found(c);
     };
-    if is_label_contained(file, t, ends, i, c) {
-        return CsectAnswer::Found(c);
-    }
-    CsectAnswer::Refused(Refusal::Csect(i))
+    judge_label(file, t, ends, i, c)
 }
 
 // The csect entry of the symbol at an index: opening's refusals, the symbol's own, then CSECT.

@@ -1,8 +1,7 @@
-use mathlib.Core.Path.{refl}
+use mathlib.Core.Path.{_∙_, refl}
 use borrow.Author.Needs.{needs}
-use Rattle.csect.proofs.Answers.{csect-contained, csect-loose, no-label}
 use Rattle.csect.specs.Csect.{csectIn, csectAfter, contained}
-use Rattle.word.proofs.Test.{found}
+use Rattle.csect.proofs.Answers.{csect-by, csect-contained, no-label}
 use Rattle.csect.proofs.csect_in.Statement.{statement}
 use Rattle.csect.proofs.csect_in.Tie as tie
 
@@ -23,16 +22,13 @@ enum-told-2 : tie.Need-enum-told-2
 enum-told-2 c = search needs
 
 returns-2 : tie.Need-returns-2
-returns-2 c = let a = c .before .before .before .before .before .before .args in csect-contained (a .file .now) (a .t) (a .i) (c .before .before .before .before .own-csect .ensures) (c .before .before .answer .given .1) refl (no-label _ _ _ _ _ (c .match2 .keys2))
+returns-2 c = csect-contained (c .before .before .before .before .before .before .args .file .now) (c .before .before .before .before .before .before .args .t) (c .before .before .before .before .before .before .args .i) (c .before .before .before .before .own-csect .ensures) (c .before .before .answer .given .1) refl (no-label _ _ _ _ _ (c .match2 .keys2))
 
-is-label-contained-requires : tie.Need-is-label-contained-requires
-is-label-contained-requires c κs = search needs
+judge-label-requires : tie.Need-judge-label-requires
+judge-label-requires c κs = search needs
 
 returns-3 : tie.Need-returns-3
-returns-3 c = let a = c .before .before .before .before .before .before .before .before .before .args in csect-contained (a .file .now) (a .t) (a .i) (c .before .before .before .before .before .before .before .own-csect .ensures) (c .before .before .before .before .before .answer .given .1) (c .before .before .enum-told2 .given .1) (found (c .before .is-label-contained .ensures) (c .if1 .taken))
-
-returns-4 : tie.Need-returns-4
-returns-4 c = let a = c .before .before .before .before .before .before .before .before .before .args in csect-loose (a .file .now) (a .t) (a .i) (c .before .before .before .before .before .before .before .own-csect .ensures) (c .before .before .before .before .before .answer .given .1) (c .before .before .enum-told2 .given .1) (found (c .before .is-label-contained .ensures) (c .if1 .left))
+returns-3 c = c .judge-label .ensures ∙ csect-by (c .before .before .before .before .before .before .before .before .args .file .now) (c .before .before .before .before .before .before .before .before .args .t) (c .before .before .before .before .before .before .before .before .args .i) (c .before .before .before .before .before .before .own-csect .ensures) (c .before .before .before .before .answer .given .1) (c .before .enum-told2 .given .1)
 
 pub csect-in-spec : {M : Type 1} → statement M
 csect-in-spec =
@@ -44,6 +40,5 @@ csect-in-spec =
     returns
     enum-told-2
     returns-2
-    is-label-contained-requires
-    returns-3
-    returns-4)
+    judge-label-requires
+    returns-3)
