@@ -28,3 +28,12 @@ field-split a b off bs h =
 pub field-one : (off : ℕ) (bs : List ℕ) → off + 1 ≤ length bs → fieldAt 1 off bs ≡ getD bs off 0
 unfolding fieldAt valueOf
 field-one off bs h = rw (drop-cons bs off 0 (omega arith)) (omega arith)
+
+-- a field of four bytes, byte by byte
+pub field-four : (off : ℕ) (bs : List ℕ) → off + 4 ≤ length bs → fieldAt 4 off bs ≡ getD bs off 0 * 16777216 + getD bs (off + 1) 0 * 65536 + getD bs (off + 2) 0 * 256 + getD bs (off + 3) 0
+field-four off bs h =
+    let q : off + 2 + 1 ≡ off + 3 = omega arith in
+    let halves = field-split 2 2 off bs h in
+    let high = field-split 1 1 off bs (omega arith) in
+    let low = rw q at (field-split 1 1 (off + 2) bs (omega arith)) in
+    omega (arith, halves, high, low, field-one off bs (omega arith), field-one (off + 1) bs (omega arith), field-one (off + 2) bs (omega arith), field-one (off + 3) bs (omega arith))

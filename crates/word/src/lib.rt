@@ -76,7 +76,7 @@ pub fn get8(s: &[u8], off: usize) -> u8
     s[off]
 }
 
-// Each width is two reads of the one below it; the compiler makes one load and a byte swap of it.
+// In these forms the compiler makes one load and a byte swap of each width.
 pub fn get16(s: &[u8], off: usize) -> u16
     requires { ⌜ off + 2 ≤ length (now s) ⌝ }
     ensures { λ r. ⌜ r ≡ fieldAt 2 off (now (s .entry)) ⌝ }
@@ -90,9 +90,17 @@ pub fn get32(s: &[u8], off: usize) -> u32
     requires { ⌜ off + 4 ≤ length (now s) ⌝ }
     ensures { λ r. ⌜ r ≡ fieldAt 4 off (now (s .entry)) ⌝ }
 {
-    let high = get16(s, off);
-    let low = get16(s, off + 2);
-    (high as u32) * 65536 + (low as u32)
+    let b0 = wide(s[off]);
+    let b1 = wide(s[off + 1]);
+    let b2 = wide(s[off + 2]);
+    let b3 = wide(s[off + 3]);
+    b0 * 16777216 + b1 * 65536 + b2 * 256 + b3
+}
+
+fn wide(b: u8) -> u32
+    ensures { λ r. ⌜ (r ≡ b) × (r < 256) ⌝ }
+{
+    b as u32
 }
 
 pub fn get64(s: &[u8], off: usize) -> u64

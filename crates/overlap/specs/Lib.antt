@@ -1,0 +1,3 @@
+-- What the contracts of `overlap` cite.
+pub mod Overlap
+pub mod Cells
