@@ -24,13 +24,14 @@ use Rattle.refusal.specs.Order.{_orElse_, refuseIf}
 use Rattle.refusal.proofs.Order.{not-accepted, accepted-first, accepted-rest, accepted-test, first-all}
 use Rattle.section.specs.declared.SectionAnswer.{SectionAnswer}
 use Rattle.section.specs.declared.SectionAnswer.the-variants.{Found, Refused}
-use Rattle.section.specs.Section.{sectionHeaderAt}
-use Rattle.section.proofs.Judged.{Judged, SectionInside, section-judged}
+use Rattle.section.specs.Section.{sectionHeaderAt, SectionWithin}
+use Rattle.section.proofs.Judged.{Judged, section-judged}
 use Rattle.header.specs.declared.FileHeader.{FileHeader}
 use Rattle.header.specs.declared.Summary.{Summary}
 use Rattle.header.specs.declared.Opened.{Opened}
 use Rattle.header.specs.Header.{headerAt, sectionStart, headerCheck, HeaderComplete}
 use Rattle.header.specs.Tables.{blankSection, blankSections, judgedAt, verdictOf, recordOf, sectionsCheck, sectionsOf, symbolsCheck, symbolTable}
+use Rattle.header.specs.Inside.{Inside}
 use Rattle.header.specs.Open.{refusedBy, openedBy, summaryWith, openAs, openBy, openOf}
 use Rattle.header.proofs.Symbols.{symbols-inside, strings-inside}
 
@@ -85,25 +86,16 @@ section-record file h (suc n) i l k = by-place (section-record file h n i (omega
     by-place before (no p) = getD-set-other (sectionsOf file h n) n i (recordOf (judgedAt file h n)) blankSection p ∙ before (omega arith)
 
 -- an accepted section is inside the file and the address space
-found-inside : (f : Format) (len : ℕ) (a : SectionAnswer) → Judged f len a → verdictOf a ≡ verdict.Accepted → SectionInside f len (recordOf a)
+found-inside : (f : Format) (len : ℕ) (a : SectionAnswer) → Judged f len a → verdictOf a ≡ verdict.Accepted → SectionWithin f len (recordOf a)
 found-inside f len (Found s) j e = j
 found-inside f len (Refused x) j e = not-accepted e
 
-judged-inside : (file : List ℕ) (h : FileHeader) (i : ℕ) → verdictOf (judgedAt file h i) ≡ verdict.Accepted → SectionInside (h .format) (length file) (recordOf (judgedAt file h i))
+judged-inside : (file : List ℕ) (h : FileHeader) (i : ℕ) → verdictOf (judgedAt file h i) ≡ verdict.Accepted → SectionWithin (h .format) (length file) (recordOf (judgedAt file h i))
 unfolding judgedAt
 judged-inside file h i e =
     found-inside (h .format) (length file) (judgedAt file h i) (section-judged (h .format) (length file) (sectionHeaderAt (h .format) (sectionStart (h .format) (h .opthdr) i) file) (record { 0 = i + 1 })) e
 
 -- ---- the whole file
-
--- what an accepted file guarantees: its headers, tables and raw data are in the file, its sections in the address space
-pub record Inside (file : List ℕ) (y : Summary) : Type 0 where
-  pub small : length file ≤ fileLimit
-  pub few : y .count ≤ sectionLimit
-  pub headers : sectionStart (y .format) (y .opthdr) (y .count) ≤ length file
-  pub symbols : y .symbols .start .0 + y .symbols .count * symbolLength ≤ length file
-  pub strings : y .symbols .strings .start .0 + y .symbols .strings .length ≤ length file
-  pub sections : (i : ℕ) → i < y .count → SectionInside (y .format) (length file) (getD (y .sections) i blankSection)
 
 module _ (file : List ℕ) (h : FileHeader) (e : symbolsCheck file h ≡ verdict.Accepted) where
   symbols-in : Dec (h .nsyms ≡ 0) → symbolTable file h .start .0 + symbolTable file h .count * symbolLength ≤ length file

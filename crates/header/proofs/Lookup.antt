@@ -29,7 +29,8 @@ use Rattle.header.specs.Tables.{blankSection}
 use Rattle.header.specs.Open.{openOf}
 use Rattle.header.specs.Lookup.{numberCheck, lookupCheck, sectionAt, nameOf, sectionNameAt, reportOfSection, sectionReport}
 use Rattle.header.proofs.Fields.{section-whole}
-use Rattle.header.proofs.Accepted.{Inside, opened-inside}
+use Rattle.header.specs.Inside.{Inside}
+use Rattle.header.proofs.Accepted.{opened-inside}
 
 -- the number of a section that is there
 number-in : (count : ℕ) (n : SectionNumber) → numberCheck count n ≡ verdict.Accepted → (eqb (n .0) 0 || ltb count (n .0)) ≡ false

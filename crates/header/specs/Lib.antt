@@ -3,3 +3,4 @@ pub mod Header
 pub mod Tables
 pub mod Open
 pub mod Lookup
+pub mod Inside

@@ -1,13 +1,14 @@
 -- What the checks of the loader section leave known. Assumes nothing.
 use Prim.Native.Nat.{ℕ, _+_, _*_, _≤_}
-use mathlib.Core.Path.{_≡_, refl, sym, _∙_}
-use mathlib.Core.Bool.{Bool, true, false, not, _||_}
+use mathlib.Core.Path.{_≡_, sym, _∙_}
+use mathlib.Core.Bool.{true, false, not, _||_}
 use mathlib.Core.List.{List}
 use native.Mathlib.Decide.{ℕ-discrete}
 use native.Mathlib.Omega.{arith}
 use lib.Dec.{eqb, ltb}
 use lib.ListN.{length}
 use borrow.Author.Tests.{le-ltb, ltb-false}
+use Rattle.word.proofs.Test.{or-first}
 use Rattle.word.specs.Zero.{zerosIn}
 use Rattle.format.specs.declared.Format.{Format}
 use Rattle.format.specs.Layout.{loaderLayout, loaderSymbolLength, relocationLayout}
@@ -62,10 +63,6 @@ module _ (h : LoaderHeader) (e : numbersCheck h ≡ Accepted) where
         ltb-false loaderSymbolLimit (h .nsyms) (accepted-test (ltb loaderSymbolLimit (h .nsyms)) _ (accepted-first (refuseIf (ltb loaderSymbolLimit (h .nsyms)) _) _ r)),
         ltb-false relocationLimit (h .nreloc) (accepted-test (ltb relocationLimit (h .nreloc)) _ (accepted-rest (refuseIf (ltb loaderSymbolLimit (h .nsyms)) _) _ r)),
       )
-
-or-first : (a b : Bool) → (a || b) ≡ false → a ≡ false
-or-first true b e = e
-or-first false b e = refl
 
 -- the places
 pub places-known : (file : List ℕ) (f : Format) (start size : ℕ) (h : LoaderHeader) → placesCheck file f start size h ≡ Accepted → start + size ≤ fileLimit → PlacesGood f start size h

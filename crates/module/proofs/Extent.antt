@@ -14,7 +14,7 @@ use Rattle.refusal.specs.Order.{refuseIf}
 use Rattle.refusal.proofs.Order.{accepted-first, accepted-rest, accepted-test}
 use Rattle.header.specs.declared.Summary.{Summary}
 use Rattle.header.specs.Header.{sectionStart}
-use Rattle.header.proofs.Accepted.{Inside}
+use Rattle.header.specs.Inside.{Inside}
 use Rattle.module.specs.declared.AuxHeader.{AuxHeader}
 use Rattle.module.specs.declared.Parts.{Parts}
 use Rattle.module.specs.Module.{lacksData, isAnchor, bssBelow, imageLength, partsCheck}

@@ -1,12 +1,13 @@
 -- Laws of the search for a module's sections. Assumes nothing.
 use Prim.Native.Nat.{ℕ, zero, suc, _+_, _≤_, _<_}
-use mathlib.Core.Path.{_≡_, refl, sym, _∙_, ap}
+use mathlib.Core.Path.{_≡_, sym, _∙_, ap}
 use mathlib.Core.Bool.{Bool, true, false, cond, _&&_, _||_}
 use mathlib.Core.List.{List}
 use native.Mathlib.Numerals.{add-one}
 use native.Mathlib.Omega.{arith}
 use lib.Dec.{eqb}
 use borrow.Author.Tests.{eqb-true}
+use Rattle.word.proofs.Test.{and-first, and-second}
 use Rattle.refusal.specs.declared.Refusal.the-variants.{Thread}
 use Rattle.refusal.specs.declared.ThreadItem.the-variants.{ThreadSection}
 use Rattle.refusal.specs.declared.Verdict.the-variants.{Refused}
@@ -50,15 +51,6 @@ pub one-known : (y : Summary) (flag : ℕ) → eqb (tallyOf y flag .count) 1 ≡
 one-known y flag e =
     let one = eqb-true (tallyOf y flag .count) 1 e in
     (tally-some (y .sections) flag (y .count) (omega arith), tally-few (y .sections) flag (y .count) .1)
-
--- the four counts, where there is one each
-and-first : (a b : Bool) → (a && b) ≡ true → a ≡ true
-and-first true b e = refl
-and-first false b e = e
-
-and-second : (a b : Bool) → (a && b) ≡ true → b ≡ true
-and-second true b e = e
-and-second false b e = cc
 
 pub record Known (y : Summary) (t : Tallies) : Type 0 where
   pub text : (0 < t .text .last) × (t .text .last ≤ y .count)

@@ -7,7 +7,7 @@ ghost use lib.ListN.{length};
 ghost use Rattle.format.specs.Layout.{auxLayout};
 ghost use Rattle.format.specs.Limit.{sectionLimit, dataImageLimit};
 ghost use Rattle.refusal.specs.Order.{_orElse_, firstOf};
-ghost use Rattle.header.proofs.Accepted.{Inside};
+ghost use Rattle.header.specs.Inside.{Inside};
 ghost use Rattle.module.specs.Sections.{tally, talliesOf, oneEach, partAt, partsOf, threadAt, threadCheck};
 ghost use Rattle.module.specs.Auxiliary.{auxAt, numbersAgree, sizesAgree};
 ghost use Rattle.module.specs.Module.{lacksData, isAnchor, bssBelow, imageLength, partsCheck, auxOf, moduleWith, moduleBy, moduleIn, moduleAt};

@@ -15,7 +15,7 @@ use Rattle.module.specs.declared.Parts.{Parts}
 use Rattle.loader.specs.declared.LoaderTables.{LoaderTables}
 use Rattle.relocation.specs.declared.FieldPlace.{FieldPlace}
 use Rattle.relocation.specs.Relocation.{bytesWide, placeAt}
-use Rattle.overlap.specs.Overlap.{sameBool, Clash, Meets, First, Readable}
+use Rattle.overlap.specs.Overlap.{sameBool, Meets, First, Readable}
 use Rattle.overlap.specs.Cells.{code, Taken, Stored, ByteOut, Marked, Free, MarkOut, cover, Hit, CellsAre, StepOut, Untouched, LowerOut, PassOut, NoHitAt, HitSomewhere, SweepOut}
 
 pub no-true : {A : Type 0} → false ≡ true → A

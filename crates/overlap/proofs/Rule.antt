@@ -1,11 +1,12 @@
 -- The rule as it is computed and the rule as a statement. Assumes nothing.
 use mathlib.Core.Path.{_≡_, refl, sym, _∙_, ap}
-use mathlib.Core.Bool.{Bool, true, false, not, cond, _&&_}
+use mathlib.Core.Bool.{Bool, true, false, not, cond}
 use Prim.Native.Nat.{ℕ, zero, suc, _+_, _≤_, _<_}
 use native.Mathlib.Decide.{decLt, decLe, ℕ-discrete}
 use native.Mathlib.Omega.{arith}
 use lib.Dec.{ltb, eqb}
 use borrow.Author.Tests.{lt-ltb, ltb-true, eqb-true, eq-eqb, ne-eqb}
+use Rattle.word.proofs.Test.{and-first, and-second}
 use Rattle.relocation.specs.declared.FieldPlace.{FieldPlace}
 use Rattle.relocation.specs.Relocation.{bytesWide}
 use Rattle.overlap.specs.Overlap.{sameBool, sameField, clashes, meetsOne, meets, Clash, Meets, First, Compatible}
@@ -14,14 +15,6 @@ use Rattle.overlap.proofs.CellLaws.{no-true, no-false, same-true, same-
 
 eqb-refl : (n : ℕ) → eqb n n ≡ true
 eqb-refl n = eq-eqb n n refl
-
-both-left : (a b : Bool) → (a && b) ≡ true → a ≡ true
-both-left true b e = refl
-both-left false b e = no-true e
-
-both-right : (a b : Bool) → (a && b) ≡ true → b ≡ true
-both-right true b e = e
-both-right false b e = no-true e
 
 not-true : (t : Bool) → not t ≡ true → t ≡ false
 not-true true e = no-true e
@@ -36,12 +29,12 @@ clash-parts : (a b : FieldPlace) → clashes a b ≡ true
     → (a .text ≡ b .text) × (a .offset < b .offset + bytesWide (b .wide)) × (b .offset < a .offset + bytesWide (a .wide)) × (sameField a b ≡ false)
 unfolding clashes
 clash-parts a b e =
-    let p = both-right (sameBool (a .text) (b .text)) _ e in
-    let q = both-right (ltb (a .offset) (b .offset + bytesWide (b .wide))) _ p in (
-      same-true (a .text) (b .text) (both-left _ _ e),
-      ltb-true _ _ (both-left _ _ p),
-      ltb-true _ _ (both-left _ _ q),
-      not-true _ (both-right (ltb (b .offset) (a .offset + bytesWide (a .wide))) _ q),
+    let p = and-second (sameBool (a .text) (b .text)) _ e in
+    let q = and-second (ltb (a .offset) (b .offset + bytesWide (b .wide))) _ p in (
+      same-true (a .text) (b .text) (and-first _ _ e),
+      ltb-true _ _ (and-first _ _ p),
+      ltb-true _ _ (and-first _ _ q),
+      not-true _ (and-second (ltb (b .offset) (a .offset + bytesWide (a .wide))) _ q),
     )
 
 differ-field : (a b : FieldPlace) → sameField a b ≡ false → (a .offset ≡ b .offset) × (a .wide ≡ b .wide) → ⊥
@@ -95,8 +88,8 @@ no-clash a b e = section (sameBool (a .text) (b .text)) refl
     field s (yes h) (no k) t q = before (same-true (a .text) (b .text) s) (omega arith)
     field s (yes h) (yes k) true q =
         same
-        (one-field a b (same-true (a .text) (b .text) s) (eqb-true (a .offset) (b .offset) (both-left _ _ q))
-        (same-true (a .wide) (b .wide) (both-right (eqb (a .offset) (b .offset)) _ q)))
+        (one-field a b (same-true (a .text) (b .text) s) (eqb-true (a .offset) (b .offset) (and-first _ _ q))
+        (same-true (a .wide) (b .wide) (and-second (eqb (a .offset) (b .offset)) _ q)))
     field s (yes h) (yes k) false q =
         no-false (sym (rw (s, lt-ltb (a .offset) (b .offset + bytesWide (b .wide)) h, lt-ltb (b .offset) (a .offset + bytesWide (a .wide)) k, q) refl) ∙ e)
 

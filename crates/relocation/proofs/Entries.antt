@@ -1,7 +1,7 @@
 -- Laws of one relocation entry. Assumes nothing.
 use Prim.Native.Nat.{ℕ, suc, _+_, _-_, _*_, _%_, _≤_, _<_}
-use mathlib.Core.Path.{_≡_, refl}
-use mathlib.Core.Bool.{Bool, true, false, not, _&&_}
+use mathlib.Core.Path.{_≡_}
+use mathlib.Core.Bool.{true, false, not, _&&_}
 use native.Mathlib.Decide.{ℕ-discrete, decLe}
 use native.Mathlib.Nat.{mul-le-mul-right, suc-mul}
 use native.Mathlib.Omega.{arith}
@@ -9,7 +9,7 @@ use lib.Dec.{eqb, ltb, leb}
 use lib.ListN.{length}
 use borrow.Author.Tests.{lt-leb, le-leb, leb-true, eq-eqb, ne-eqb, not-false}
 use Rattle.word.specs.Test.{past}
-use Rattle.word.proofs.Test.{past-yes, past-no}
+use Rattle.word.proofs.Test.{past-yes, past-no, and-first, and-second}
 use Rattle.format.specs.declared.Format.{Format}
 use Rattle.format.specs.declared.Format.the-variants.{Xcoff32, Xcoff64}
 use Rattle.format.specs.declared.RelocationLayout.{RelocationLayout}
@@ -53,14 +53,6 @@ inside-by p e {w} h q = rw (← q) (by-place (decLe (e .address .0 - p .address 
     by-place : Dec (e .address .0 - p .address .0 + w ≤ p .size) → not (past (e .address .0 - p .address .0) w (p .size)) ≡ (leb (p .address .0) (e .address .0) && leb (e .address .0 + w) (p .address .0 + p .size))
     by-place (yes l) = rw (past-no (e .address .0 - p .address .0) w (p .size) l, le-leb (p .address .0) (e .address .0) h, le-leb (e .address .0 + w) (p .address .0 + p .size) (omega arith))
     by-place (no l) = rw (past-yes (e .address .0 - p .address .0) w (p .size) (omega arith), le-leb (p .address .0) (e .address .0) h, lt-leb (e .address .0 + w) (p .address .0 + p .size) (omega arith))
-
-and-first : (a b : Bool) → (a && b) ≡ true → a ≡ true
-and-first true b e = refl
-and-first false b e = e
-
-and-second : (a b : Bool) → (a && b) ≡ true → b ≡ true
-and-second true b e = e
-and-second false b e = cc
 
 -- a field inside its section starts at or after it and ends in it
 pub inside-known : (p : Part) (e : RelocationEntry) → isInside p e ≡ true → (p .address .0 ≤ e .address .0) × (e .address .0 - p .address .0 + bytesWide (isWide (e .rtype)) ≤ p .size)

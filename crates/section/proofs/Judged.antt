@@ -1,43 +1,28 @@
 -- What holds of every section that is accepted, along the definition that judges it. Assumes nothing.
-use Prim.Native.Nat.{ℕ, _+_, _≤_}
-use mathlib.Core.Path.{_≡_, refl}
-use mathlib.Core.Bool.{Bool, true, false, not, _||_}
+use Prim.Native.Nat.{ℕ}
+use mathlib.Core.Path.{_≡_}
+use mathlib.Core.Bool.{false, not}
 use lib.Dec.{eqb}
 use borrow.Author.Tests.{eqb-true, not-false}
-use Rattle.word.proofs.Test.{either, past-not}
+use Rattle.word.proofs.Test.{either, past-not, or-first, or-second}
 use Rattle.format.specs.declared.Format.{Format}
 use Rattle.format.specs.declared.SectionNumber.{SectionNumber}
 use Rattle.format.specs.declared.SectionKind.{SectionKind}
 use Rattle.format.specs.declared.KindAnswer.{KindAnswer}
 use Rattle.format.specs.declared.KindAnswer.the-variants.{Allowed, NotAllowed}
 use Rattle.format.specs.Layout.{addressLimit}
-use Rattle.format.specs.Kind.{kindOf, isPlacedKind}
-use Rattle.section.specs.declared.Section.{Section}
+use Rattle.format.specs.Kind.{kindOf}
 use Rattle.section.specs.declared.SectionHeader.{SectionHeader}
 use Rattle.section.specs.declared.SectionAnswer.{SectionAnswer}
 use Rattle.section.specs.declared.SectionAnswer.the-variants.{Found, Refused}
-use Rattle.section.specs.Section.{rawDataPast, misplaced, sectionOf, judgeKind, judgeSection}
-
--- raw data is inside the file's `len` bytes, and text, data and bss are inside the address space
-pub record SectionInside (f : Format) (len : ℕ) (s : Section) : Type 0 where
-  pub data-in : s .raw ≡ true → s .scnptr .0 + s .size ≤ len
-  pub same : isPlacedKind (s .kind) ≡ true → s .vaddr .0 ≡ s .paddr .0
-  pub address-in : isPlacedKind (s .kind) ≡ true → s .vaddr .0 + s .size ≤ addressLimit f
+use Rattle.section.specs.Section.{rawDataPast, misplaced, sectionOf, judgeKind, judgeSection, SectionWithin}
 
 abbrev pub Judged : Format → ℕ → SectionAnswer → Type 0
-Judged f len (Found s) = SectionInside f len s
+Judged f len (Found s) = SectionWithin f len s
 Judged f len (Refused x) = Unit {0}
 
-or-first : (a b : Bool) → (a || b) ≡ false → a ≡ false
-or-first true b e = e
-or-first false b e = refl
-
-or-second : (a b : Bool) → (a || b) ≡ false → b ≡ false
-or-second true b e = cc
-or-second false b e = e
-
 module _ (f : Format) (len : ℕ) (h : SectionHeader) where
-  section-inside : (k : SectionKind) → rawDataPast k len h ≡ false → misplaced f k h ≡ false → SectionInside f len (sectionOf k h)
+  section-inside : (k : SectionKind) → rawDataPast k len h ≡ false → misplaced f k h ≡ false → SectionWithin f len (sectionOf k h)
   unfolding sectionOf rawDataPast misplaced
   section-inside k a m =
       record {

@@ -1,6 +1,7 @@
 -- One section: what its header holds, and the order in which it is judged: KIND, BOUNDS, ADDRESS.
-use Prim.Native.Nat.{ℕ}
-use mathlib.Core.Bool.{Bool, not, cond, _&&_, _||_}
+use Prim.Native.Nat.{ℕ, _+_, _≤_}
+use mathlib.Core.Path.{_≡_}
+use mathlib.Core.Bool.{Bool, true, not, cond, _&&_, _||_}
 use mathlib.Core.List.{List}
 use lib.Dec.{eqb}
 use Rattle.word.specs.Number.{fieldIn}
@@ -65,3 +66,9 @@ judgeKind f len h n (Allowed k) =
 -- what section n is judged to be, with the header h in a file of `len` bytes
 unfoldable pub judgeSection : Format → ℕ → SectionHeader → SectionNumber → SectionAnswer
 judgeSection f len h n = judgeKind f len h n (kindOf (h .flags))
+
+-- what an accepted section guarantees: raw data is inside the file's `len` bytes, and text, data and bss are inside the address space
+pub record SectionWithin (f : Format) (len : ℕ) (s : Section) : Type 0 where
+  pub data-in : s .raw ≡ true → s .scnptr .0 + s .size ≤ len
+  pub same : isPlacedKind (s .kind) ≡ true → s .vaddr .0 ≡ s .paddr .0
+  pub address-in : isPlacedKind (s .kind) ≡ true → s .vaddr .0 + s .size ≤ addressLimit f

@@ -1,9 +1,18 @@
+use mathlib.Core.Path.{_≡_}
 use native.Mathlib.Omega.{arith}
 use borrow.Author.Needs.{needs}
+use Rattle.refusal.specs.declared.Verdict.the-variants.{Accepted}
 use Rattle.word.proofs.Test.{found}
 use Rattle.header.proofs.Lookup.{looked-up, known, inside, section-refused, section-found, section-reported}
+use Rattle.header.specs.Lookup.{lookupCheck}
 use Rattle.header.proofs.section_at.Statement.{statement}
 use Rattle.header.proofs.section_at.Tie as tie
+
+-- where the look-up accepts, the section is there
+accepted : (c : tie.After-enum-told) → lookupCheck (c .before .before .before .before .before .before .args .file .now) (c .before .before .before .before .before .before .args .n) ≡ Accepted
+accepted c =
+    let a = c .before .before .before .before .before .before .args in
+    found (looked-up (a .file .now) (a .n) (c .before .before .before .before .«open» .ensures .0) (c .before .before .check-number .ensures)) (c .enum-told .given .1)
 
 open-requires : tie.Need-open-requires
 open-requires c κs = search needs
@@ -18,19 +27,32 @@ enum-told : tie.Need-enum-told
 enum-told c = search needs
 
 sub-i : tie.Need-sub-i
-sub-i c = let a = c .before .before .before .before .before .before .before .args in let k = known (a .file .now) (a .n) (found (looked-up (a .file .now) (a .n) (c .before .before .before .before .before .«open» .ensures .0) (c .before .before .before .check-number .ensures)) (c .before .enum-told .given .1)) in omega arith
+sub-i c = let k = known _ _ (accepted (c .before)) in omega arith
 
 mul-section : tie.Need-mul-section
-mul-section c = let a = c .before .before .before .before .before .before .before .args in let e = found (looked-up (a .file .now) (a .n) (c .before .before .before .before .before .«open» .ensures .0) (c .before .before .before .check-number .ensures)) (c .before .enum-told .given .1) in let k = known (a .file .now) (a .n) e in let i = inside (a .file .now) (a .n) e .few in omega arith
+mul-section c =
+    let k = known _ _ (accepted (c .before)) in
+    let few = inside _ _ (accepted (c .before)) .few in
+    omega arith
 
 element-copy-out-section : tie.Need-element-copy-out-section
-element-copy-out-section c = let a = c .before .before .before .before .before .before .before .args in let e = found (looked-up (a .file .now) (a .n) (c .before .before .before .before .before .«open» .ensures .0) (c .before .before .before .check-number .ensures)) (c .before .enum-told .given .1) in let k = known (a .file .now) (a .n) e in let i = inside (a .file .now) (a .n) e .few in search needs
+element-copy-out-section c =
+    let k = known _ _ (accepted (c .before)) in
+    let few = inside _ _ (accepted (c .before)) .few in
+    search needs
 
 returns : tie.Need-returns
-returns c = let a = c .before .before .before .before .before .before .before .args in section-reported (a .file .now) (a .n) (section-refused (a .file .now) (a .n) _ (looked-up (a .file .now) (a .n) (c .before .before .before .before .before .«open» .ensures .0) (c .before .before .before .check-number .ensures)) (c .before .v .given .1))
+returns c =
+    let a = c .before .before .before .before .before .before .before .args in
+    let v = looked-up (a .file .now) (a .n) (c .before .before .before .before .before .«open» .ensures .0) (c .before .before .before .check-number .ensures) in
+    section-reported (a .file .now) (a .n) (section-refused (a .file .now) (a .n) _ v (c .before .v .given .1))
 
 returns-2 : tie.Need-returns-2
-returns-2 c = let a = c .before .before .before .before .before .before .before .before .args in section-reported (a .file .now) (a .n) (section-found (a .file .now) (a .n) (c .before .before .before .before .before .before .«open» .ensures .0) (looked-up (a .file .now) (a .n) (c .before .before .before .before .before .before .«open» .ensures .0) (c .before .before .before .before .check-number .ensures)) (c .before .before .enum-told .given .1))
+returns-2 c =
+    let a = c .before .before .before .before .before .before .before .before .args in
+    let o = c .before .before .before .before .before .before .«open» .ensures .0 in
+    let v = looked-up (a .file .now) (a .n) o (c .before .before .before .before .check-number .ensures) in
+    section-reported (a .file .now) (a .n) (section-found (a .file .now) (a .n) o v (c .before .before .enum-told .given .1))
 
 pub section-at-spec : {M : Type 1} → statement M
 section-at-spec =
