@@ -1,6 +1,6 @@
 -- What the checks of the loader section leave known. Assumes nothing.
 use Prim.Native.Nat.{ℕ, _+_, _*_, _≤_}
-use mathlib.Core.Path.{_≡_, sym, _∙_}
+use mathlib.Core.Path.{_≡_, refl, sym, _∙_, subst}
 use mathlib.Core.Bool.{true, false, not, _||_}
 use mathlib.Core.List.{List}
 use native.Mathlib.Decide.{ℕ-discrete}
@@ -8,7 +8,7 @@ use native.Mathlib.Omega.{arith}
 use lib.Dec.{eqb, ltb}
 use lib.ListN.{length}
 use borrow.Author.Tests.{le-ltb, ltb-false}
-use Rattle.word.proofs.Test.{or-first}
+use Rattle.word.proofs.Test.{or-first, or-second}
 use Rattle.word.specs.Zero.{zerosIn}
 use Rattle.format.specs.declared.Format.{Format}
 use Rattle.format.specs.Layout.{loaderLayout, loaderSymbolLength, relocationLayout}
@@ -17,13 +17,19 @@ use Rattle.format.specs.Range.{bytesOf}
 use Rattle.refusal.specs.declared.Refusal.the-variants.{Loader}
 use Rattle.refusal.specs.declared.LoaderItem.the-variants.{ShortHeader}
 use Rattle.refusal.specs.declared.Verdict.{Verdict}
-use Rattle.refusal.specs.declared.Verdict.the-variants.{Accepted}
+use Rattle.refusal.specs.declared.Verdict.the-variants.{Accepted, Refused}
 use Rattle.refusal.specs.Refusal.{isRefused}
 use Rattle.refusal.specs.Order.{_orElse_, refuseIf}
-use Rattle.refusal.proofs.Order.{test-passed, go-on, stop, accepted-first, accepted-rest, accepted-test}
+use Rattle.refusal.proofs.Order.{test-passed, go-on, stop, accepted-first, accepted-rest, accepted-test, first-all}
 use Rattle.loader.specs.declared.LoaderHeader.{LoaderHeader}
 use Rattle.loader.specs.Header.{loaderHeaderAt, tablePast, numbersCheck, placeOf, tablesOf, placesCheck, headerCheck, LoaderRoom, PlacesGood}
+use Rattle.module.specs.declared.Module.{Module}
+use Rattle.loader.specs.declared.LoaderTables.{LoaderTables}
+use Rattle.loader.specs.declared.LoaderAnswer.{LoaderAnswer}
+use Rattle.loader.specs.declared.LoaderAnswer.the-variants as answer
 use Rattle.loader.specs.Symbol.{TablesInside}
+use Rattle.loader.specs.Loader.{tablesIn, symbolsCheck, loaderCheck, loaderBy, loaderIn}
+use Rattle.loader.specs.Inside.{LoaderInside}
 use Rattle.loader.proofs.Places.{header-long, table-in, place-empty, place-full}
 
 -- the answer by the checks that were made
@@ -84,6 +90,17 @@ places-known file f start size h e room =
       strings = accepted-test d _ r3;
     }
 
+-- the import ids have their strings
+ids-full : (file : List ℕ) (f : Format) (start size : ℕ) (h : LoaderHeader) → placesCheck file f start size h ≡ Accepted → 3 * h .nimpid ≤ zerosIn (bytesOf file (tablesOf f start h .ids))
+unfolding placesCheck
+ids-full file f start size h e =
+    let a = tablePast (h .symoff) (h .nsyms * loaderSymbolLength) size in
+    let b = tablePast (h .rldoff) (h .nreloc * relocationLayout f .length) size in
+    let c = tablePast (h .impoff) (h .istlen) size in
+    let zeros = zerosIn (bytesOf file (tablesOf f start h .ids)) in
+    let r2 = accepted-rest (refuseIf b _) _ (accepted-rest (refuseIf a _) _ e) in
+    ltb-false zeros (3 * h .nimpid) (or-second c (ltb zeros (3 * h .nimpid)) (accepted-test (c || ltb zeros (3 * h .nimpid)) _ (accepted-first (refuseIf (c || ltb zeros (3 * h .nimpid)) _) _ r2)))
+
 -- a table at its place ends in the file
 table-at : (start off len size n : ℕ) → start + size ≤ n → tablePast off len size ≡ false → Dec (len ≡ 0) → placeOf start off len + len ≤ n
 table-at start off len size n r e (yes z) = rw (place-empty start off len z) (omega arith)
@@ -119,3 +136,36 @@ loader-known file f start size e room =
       places = places;
       tables = tables-inside file f start size h small inside (few h (numbers-good file f start size e) .0) places;
     }
+
+-- all that is known of the tables that are found
+tables-known : (file : List ℕ) (m : Module) → LoaderRoom (length file) (m .parts .loader .start .0) (m .parts .loader .size) → loaderCheck file m ≡ Accepted → LoaderInside file m (tablesIn file m)
+unfolding loaderCheck symbolsCheck tablesIn tablesOf
+tables-known file m room e =
+    let f = m .format in
+    let start = m .parts .loader .start .0 in
+    let size = m .parts .loader .size in
+    let h = loaderHeaderAt f start file in
+    let c = accepted-first (headerCheck file f start size) _ e in
+    let known = loader-known file f start size c room in
+    let long = long-enough file f start size c in
+    let inside = room .inside (omega (arith, header-long f)) in
+    record {
+      tables = known .tables;
+      few = few h (numbers-good file f start size c) .1;
+      relocations = table-at start (h .rldoff) (h .nreloc * relocationLayout f .length) size (length file) inside (known .places .relocations) (ℕ-discrete (h .nreloc * relocationLayout f .length) 0);
+      ids = ids-full file f start size h (places-good file f start size c);
+      symbols = λ k l. first-all _ (h .nsyms) 0 (accepted-rest (headerCheck file f start size) _ e) k (omega arith) (omega arith);
+    }
+
+-- of an answer: it holds where tables are found
+abbrev Answered : List ℕ → Module → LoaderAnswer → Type 0
+Answered file m (answer.Found t) = LoaderInside file m t
+Answered file m (answer.Refused x) = Unit {0}
+
+by-verdict : (file : List ℕ) (m : Module) (v : Verdict) (t : LoaderTables) → (v ≡ Accepted → LoaderInside file m t) → Answered file m (loaderBy v t)
+by-verdict file m Accepted t k = k refl
+by-verdict file m (Refused x) t k = tt
+
+pub loader-inside : (file : List ℕ) (m : Module) (t : LoaderTables) → LoaderRoom (length file) (m .parts .loader .start .0) (m .parts .loader .size) → loaderIn file m ≡ answer.Found t → LoaderInside file m t
+unfolding loaderIn
+loader-inside file m t room e = subst (Answered file m) e (by-verdict file m (loaderCheck file m) (tablesIn file m) (tables-known file m room))

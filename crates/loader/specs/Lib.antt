@@ -2,3 +2,4 @@
 pub mod Header
 pub mod Symbol
 pub mod Loader
+pub mod Inside

@@ -3,3 +3,4 @@
 pub mod Tallied
 pub mod Extent
 pub mod AuxRecord
+pub mod Accepted

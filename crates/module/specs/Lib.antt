@@ -2,3 +2,4 @@
 pub mod Sections
 pub mod Auxiliary
 pub mod Module
+pub mod Inside

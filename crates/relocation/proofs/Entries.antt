@@ -2,6 +2,7 @@
 use Prim.Native.Nat.{ℕ, suc, _+_, _-_, _*_, _%_, _≤_, _<_}
 use mathlib.Core.Path.{_≡_}
 use mathlib.Core.Bool.{true, false, not, _&&_}
+use mathlib.Core.List.{List}
 use native.Mathlib.Decide.{ℕ-discrete, decLe}
 use native.Mathlib.Nat.{mul-le-mul-right, suc-mul}
 use native.Mathlib.Omega.{arith}
@@ -20,8 +21,9 @@ use Rattle.refusal.specs.Order.{refuseIf}
 use Rattle.refusal.proofs.Order.{accepted-rest, accepted-test}
 use Rattle.module.specs.declared.Part.{Part}
 use Rattle.module.specs.declared.Parts.{Parts}
+use Rattle.loader.specs.declared.LoaderTables.{LoaderTables}
 use Rattle.relocation.specs.declared.RelocationEntry.{RelocationEntry}
-use Rattle.relocation.specs.Relocation.{isThread, isType, isWidth, widthBits, bytesWide, isWide, isInside, isHeld, isGood, ownCheck, placeOf, PlaceInside}
+use Rattle.relocation.specs.Relocation.{isThread, isType, isWidth, widthBits, bytesWide, isWide, isInside, isHeld, isGood, ownCheck, placeOf, entryIn, ownAt, PlaceInside}
 
 -- the fields of an entry at base, in a file of n bytes
 entry-fields : (f : Format) (base n : ℕ) → base + relocationLayout f .length ≤ n → FieldInside (relocationLayout f .address) base n × FieldInside (relocationLayout f .symbol) base n
@@ -88,6 +90,12 @@ own-symbol f p nsyms i e q = last (own-good f p nsyms i e q)
     last : isGood f p nsyms e ≡ true → ltb (e .symbol) (3 + nsyms) ≡ true
     last g = unfold isGood in and-second (isType (e .rtype % 256) && isWidth f (widthBits (e .rtype)) && isHeld p e) _ g
 
+-- entry i in the file is held where it is good by itself
+pub held-at : (file : List ℕ) (f : Format) (p : Parts) (t : LoaderTables) (i : ℕ) {e : RelocationEntry} → ownAt file f p t i ≡ Accepted
+    → e ≡ entryIn file f t i → isHeld p e ≡ true
+unfolding ownAt
+held-at file f p t i q h = rw h (own-held f p (t .nsyms) i (entryIn file f t i) q)
+
 -- a held field is inside text, or inside data
 pub held-text : (p : Parts) (e : RelocationEntry) → isHeld p e ≡ true → e .scnum ≡ p .text .number .0 → isInside (p .text) e ≡ true
 unfolding isHeld
@@ -96,6 +104,13 @@ held-text p e h q = rw (eq-eqb (e .scnum) (p .text .number .0) q) at h
 pub held-data : (p : Parts) (e : RelocationEntry) → isHeld p e ≡ true → (e .scnum ≡ p .text .number .0 → ⊥) → isInside (p .«data») e ≡ true
 unfolding isHeld
 held-data p e h n = and-second (eqb (e .scnum) (p .«data» .number .0)) _ (rw (ne-eqb (e .scnum) (p .text .number .0) n) at h)
+
+-- so it starts where that section does, or after
+pub above-text : (p : Parts) (e : RelocationEntry) → isHeld p e ≡ true → e .scnum ≡ p .text .number .0 → p .text .address .0 ≤ e .address .0
+above-text p e h q = inside-known (p .text) e (held-text p e h q) .0
+
+pub above-data : (p : Parts) (e : RelocationEntry) → isHeld p e ≡ true → (e .scnum ≡ p .text .number .0 → ⊥) → p .«data» .address .0 ≤ e .address .0
+above-data p e h n = inside-known (p .«data») e (held-data p e h n) .0
 
 -- the field of such an entry is inside its section
 place-in : (p : Parts) (e : RelocationEntry) → isHeld p e ≡ true → Dec (e .scnum ≡ p .text .number .0) → PlaceInside p (placeOf p e)

@@ -1,5 +1,6 @@
 // Loader relocation entries: read, judged each by itself, and the field that each names.
 ghost use mathlib.Core.Path.{_≡_};
+ghost use mathlib.Core.Bool.{true};
 ghost use Prim.Native.Nat.{_+_, _*_, _≤_, _<_};
 ghost use lib.ListN.{length};
 ghost use Rattle.format.specs.Layout.{relocationLayout};
@@ -152,12 +153,11 @@ pub fn check_own(file: &[u8], f: Format, p: Parts, t: LoaderTables, i: u64) -> V
     Verdict::Refused(Refusal::Lrel(i))
 }
 
-// The field of entry `i`, which is good by itself.
-pub fn place_at(file: &[u8], f: Format, p: Parts, t: LoaderTables, i: u64) -> FieldPlace
-    requires { ⌜ EntriesInside (now file) f t × (i < t .nreloc) × (ownAt (now file) f p t i ≡ Verdict.Accepted) ⌝ }
-    ensures { λ r. ⌜ r ≡ placeAt (now (file .entry)) f p t i ⌝ }
+// The field of an entry that is inside its section.
+pub fn place_of(p: Parts, e: RelocationEntry) -> FieldPlace
+    requires { ⌜ isHeld p e ≡ true ⌝ }
+    ensures { λ r. ⌜ r ≡ placeOf p e ⌝ }
 {
-    let e = entry_in(file, f, t, i);
     let text = p.text;
     let data = p.data;
     let at = e.address;
@@ -176,4 +176,13 @@ pub fn place_at(file: &[u8], f: Format, p: Parts, t: LoaderTables, i: u64) -> Fi
         offset: at.0 - low.0,
         wide: is_wide(e.rtype),
     }
+}
+
+// The field of entry `i`, which is good by itself.
+pub fn place_at(file: &[u8], f: Format, p: Parts, t: LoaderTables, i: u64) -> FieldPlace
+    requires { ⌜ EntriesInside (now file) f t × (i < t .nreloc) × (ownAt (now file) f p t i ≡ Verdict.Accepted) ⌝ }
+    ensures { λ r. ⌜ r ≡ placeAt (now (file .entry)) f p t i ⌝ }
+{
+    let e = entry_in(file, f, t, i);
+    place_of(p, e)
 }

@@ -9,7 +9,7 @@ use lib.Pow.{pow-add}
 use Rattle.word.specs.Number.{valueOf, fieldAt}
 
 -- the bytes of a field that is whole
-length-field : (w off : ℕ) (bs : List ℕ) → off + w ≤ length bs → length (take w (drop off bs)) ≡ w
+pub length-field : (w off : ℕ) (bs : List ℕ) → off + w ≤ length bs → length (take w (drop off bs)) ≡ w
 length-field w off bs h = length-take-le w (drop off bs) (rw length-drop (omega arith))
 
 value-append : (xs ys : List ℕ) → valueOf (xs ++ ys) ≡ valueOf xs * 256 ^ length ys + valueOf ys

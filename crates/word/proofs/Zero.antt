@@ -1,5 +1,5 @@
 -- The laws of the first zero. Assumes nothing.
-use mathlib.Core.Path.{_≡_}
+use mathlib.Core.Path.{_≡_, refl}
 use mathlib.Core.Bool.{Bool, true, false, cond}
 use mathlib.Core.List.{List, [], _∷_}
 use Prim.Native.Nat.{ℕ, zero, suc, _+_, _-_, _≤_, _<_, suc-le-suc, zero-le}
@@ -58,6 +58,17 @@ zero-within (x ∷ xs) = by-test (eqb x 0) (zero-within xs)
     by-test : (b : Bool) → firstZero xs ≤ length xs → cond b 0 (suc (firstZero xs)) ≤ suc (length xs)
     by-test true h = zero-le
     by-test false h = suc-le-suc h
+
+-- behind the first zero there is one zero less
+pub zero-counted : (s : List ℕ) → 0 < zerosIn s → (firstZero s < length s) × (zerosIn s ≡ suc (zerosIn (drop (suc (firstZero s)) s)))
+unfolding firstZero zerosIn
+zero-counted [] h = absurd (omega arith)
+zero-counted (x ∷ xs) h = by-test (eqb x 0) (zero-counted xs) h
+  where
+    by-test : (b : Bool) → (0 < zerosIn xs → (firstZero xs < length xs) × (zerosIn xs ≡ suc (zerosIn (drop (suc (firstZero xs)) xs)))) → 0 < cond b (suc (zerosIn xs)) (zerosIn xs)
+        → (cond b 0 (suc (firstZero xs)) < suc (length xs)) × (cond b (suc (zerosIn xs)) (zerosIn xs) ≡ suc (zerosIn (drop (cond b 0 (suc (firstZero xs))) xs)))
+    by-test true rest k = (omega arith, refl)
+    by-test false rest k = let r = rest k in (omega arith, r .1)
 
 -- one place less to look at, for a loop from the end
 pub zeros-less : (s : List ℕ) (i : ℕ) → 0 < i → (getD s (i - 1) 0 ≡ 0 → ⊥) → ((k : ℕ) → i ≤ k → k < length s → getD s k 0 ≡ 0 → ⊥) → (k : ℕ) → i - 1 ≤ k → k < length s → getD s k 0 ≡ 0 → ⊥

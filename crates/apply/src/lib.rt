@@ -1,0 +1,124 @@
+// Relocation entries applied to the two images of a module.
+ghost use mathlib.Core.Path.{_≡_};
+ghost use Prim.Native.Nat.{_+_, _≤_, _<_};
+ghost use lib.ListN.{length};
+ghost use lib.IntN.{pos};
+ghost use Rattle.relocation.specs.Relocation.{bytesWide};
+ghost use Rattle.loadable.specs.Valid.{Valid};
+ghost use Rattle.update.specs.Update.{addField};
+ghost use Rattle.history.specs.Images.{images, signed, applyEntry, applyAll};
+ghost use Rattle.plan.specs.Relocatable.{relocationAt, relocationsFrom};
+ghost use Rattle.apply.specs.Shift.{StandsFor, importShift, shiftsBy};
+use history::Followed;
+use loadable::Loadable;
+
+// Adds `z` to the field of 8 or 4 bytes at `off`, or subtracts it.
+fn add_to_field(s: &mut [u8], off: usize, wide: bool, minus: bool, z: u64)
+    requires { ⌜ off + bytesWide wide ≤ length (now s) ⌝ }
+    ensures { λ _. ⌜ now (s .exit) ≡ addField (bytesWide wide) off (signed minus (pos z)) (now (s .entry)) ⌝ }
+{
+    if wide {
+        if minus {
+            update::sub64(s, off, z);
+            return;
+        }
+        update::add64(s, off, z);
+        return;
+    }
+    if minus {
+        update::sub32(s, off, z);
+        return;
+    }
+    update::add32(s, off, z);
+}
+
+// An import's shift: to the address in one list, in a move from that in the other, in a build from its recorded value.
+fn import_shift(moving: bool, from: &[u64], to: &[u64], k: u64, value: u64) -> u64
+    requires { ⌜ (k < length (now from)) × (k < length (now to)) ⌝ }
+    ensures { λ r. ⌜ StandsFor r (importShift moving (now (from .entry)) (now (to .entry)) k value) ⌝ }
+{
+    let place = k as usize;
+    if moving {
+        return std::num::wrapping_sub_u64(to[place], from[place]);
+    }
+    std::num::wrapping_sub_u64(to[place], value)
+}
+
+// A symbol's shift. `d` has those of text, data and bss, symbols 0, 1 and 2.
+fn shift_of(
+    file: &[u8],
+    l: Loadable,
+    d: [u64; 3],
+    moving: bool,
+    from: &[u64],
+    to: &[u64],
+    symbol: u64,
+) -> u64
+    requires { ⌜ Valid (now file) l × (symbol < 3 + l .tables .nsyms) ⌝ }
+    requires { ⌜ (length (now from) ≡ l .tables .nsyms) × (length (now to) ≡ l .tables .nsyms) ⌝ }
+    ensures { λ r. ⌜ StandsFor r (shiftsBy (now (file .entry)) l d moving (now (from .entry)) (now (to .entry)) symbol) ⌝ }
+{
+    if symbol < 3 {
+        return d[symbol as usize];
+    }
+    let f = plan::followed_at(file, l, symbol - 3);
+    match f {
+        Followed::Text => d[0],
+        Followed::Data => d[1],
+        Followed::Import(k, v) => import_shift(moving, from, to, k, v),
+        Followed::Nothing => 0,
+    }
+}
+
+// Updates the field of relocation entry `i` by its symbol's shift.
+fn apply_entry(
+    file: &[u8],
+    l: Loadable,
+    i: u64,
+    d: [u64; 3],
+    moving: bool,
+    from: &[u64],
+    to: &[u64],
+    text: &mut [u8],
+    data: &mut [u8],
+)
+    requires { ⌜ Valid (now file) l × (i < l .tables .nreloc) ⌝ }
+    requires { ⌜ (length (now from) ≡ l .tables .nsyms) × (length (now to) ≡ l .tables .nsyms) ⌝ }
+    requires { ⌜ (length (now text) ≡ l .layout .parts .text .size) × (length (now «data») ≡ l .layout .image) ⌝ }
+    ensures { λ _. ⌜ images (now (text .exit)) (now («data» .exit)) ≡ applyEntry (relocationAt (now (file .entry)) l i) (shiftsBy (now (file .entry)) l d moving (now (from .entry)) (now (to .entry))) (images (now (text .entry)) (now («data» .entry))) ⌝ }
+{
+    let e = plan::relocation_at(file, l, i);
+    let place = e.place;
+    let z = shift_of(file, l, d, moving, from, to, e.symbol);
+    if place.text {
+        add_to_field(text, place.offset as usize, place.wide, e.minus, z);
+        return;
+    }
+    add_to_field(data, place.offset as usize, place.wide, e.minus, z);
+}
+
+// Applies each relocation entry in order. `d` has the shifts of text, data and bss; imports shift from `from` to `to`, in a build from their
+// recorded values.
+pub fn apply_all(
+    file: &[u8],
+    l: Loadable,
+    d: [u64; 3],
+    moving: bool,
+    from: &[u64],
+    to: &[u64],
+    text: &mut [u8],
+    data: &mut [u8],
+)
+    requires { ⌜ Valid (now file) l ⌝ }
+    requires { ⌜ (length (now from) ≡ l .tables .nsyms) × (length (now to) ≡ l .tables .nsyms) ⌝ }
+    requires { ⌜ (length (now text) ≡ l .layout .parts .text .size) × (length (now «data») ≡ l .layout .image) ⌝ }
+    ensures { λ _. ⌜ images (now (text .exit)) (now («data» .exit)) ≡ applyAll (relocationsFrom (now (file .entry)) l 0 (l .tables .nreloc)) (shiftsBy (now (file .entry)) l d moving (now (from .entry)) (now (to .entry))) (images (now (text .entry)) (now («data» .entry))) ⌝ }
+{
+    let t = l.tables;
+    let count = t.nreloc;
+    let mut i: u64 = 0;
+    while i < count {
+        apply_entry(file, l, i, d, moving, from, to, text, data);
+        i += 1;
+    }
+}

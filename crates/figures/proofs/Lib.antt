@@ -1,0 +1,2 @@
+-- Bench figures P1 to P11 of document 01.
+pub mod Figures

@@ -1,0 +1,58 @@
+-- The two images of a module, and relocation entries applied to them.
+use mathlib.Core.Bool.{Bool, true, false}
+use mathlib.Core.List.{List, [], _∷_}
+use Prim.Native.Nat.{ℕ, _+_, _≤_}
+use lib.ListN.{length}
+use lib.IntN.{ℤ, negℤ}
+use Rattle.update.specs.Update.{addField}
+use Rattle.relocation.specs.declared.FieldPlace.{FieldPlace}
+use Rattle.relocation.specs.Relocation.{bytesWide}
+use Rattle.overlap.specs.Overlap.{Compatible}
+use Rattle.history.specs.declared.Relocation.{Relocation}
+
+pub record Images : Type 0 where
+  pub text : List ℕ
+  pub dat : List ℕ
+
+abbrev pub images : List ℕ → List ℕ → Images
+images t d = record { text = t; dat = d }
+
+-- an exact whole number for each symbol (document 01: its shift)
+abbrev pub Shifts : Type 0
+Shifts = ℕ → ℤ
+
+abbrev pub signed : Bool → ℤ → ℤ
+signed true z = negℤ z
+signed false z = z
+
+-- z added to the field of w bytes from off, in the text or in the data image
+unfoldable pub addAt : Bool → ℕ → ℕ → ℤ → Images → Images
+addAt true w off z x = images (addField w off z (x .text)) (x .dat)
+addAt false w off z x = images (x .text) (addField w off z (x .dat))
+
+-- an entry applied by its symbol's shift
+unfoldable pub applyEntry : Relocation → Shifts → Images → Images
+applyEntry e s x = addAt (e .place .text) (bytesWide (e .place .wide)) (e .place .offset) (signed (e .minus) (s (e .symbol))) x
+
+-- each entry applied in order
+unfoldable pub applyAll : List Relocation → Shifts → Images → Images
+applyAll [] s x = x
+applyAll (e ∷ es) s x = applyAll es s (applyEntry e s x)
+
+-- ---- what holds of the entries of an accepted module
+
+unfoldable pub lengthOf : Bool → Images → ℕ
+lengthOf true x = length (x .text)
+lengthOf false x = length (x .dat)
+
+abbrev pub All : (Relocation → Type 0) → List Relocation → Type 0
+All P [] = Unit {0}
+All P (e ∷ es) = P e × All P es
+
+abbrev pub Inside : Images → Relocation → Type 0
+Inside x e = e .place .offset + bytesWide (e .place .wide) ≤ lengthOf (e .place .text) x
+
+-- two fields of one image are the same or share no byte
+abbrev pub Pairwise : List Relocation → Type 0
+Pairwise [] = Unit {0}
+Pairwise (e ∷ es) = All (λ f. Compatible (e .place) (f .place)) es × Pairwise es

@@ -1,0 +1,4 @@
+-- The laws of look-ups.
+
+pub mod Symbols
+pub mod Strings

@@ -1,0 +1,3 @@
+-- What the contracts of `lookup` cite.
+pub mod Symbol
+pub mod Import

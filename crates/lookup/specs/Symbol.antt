@@ -1,0 +1,76 @@
+-- A loader symbol looked up by its index, from 3: the module's refusals, then INDEX.
+use Prim.Native.Nat.{ℕ, _+_, _-_}
+use mathlib.Core.Bool.{not, _||_}
+use mathlib.Core.List.{List}
+use lib.Dec.{ltb}
+use Rattle.refusal.specs.declared.Refusal.the-variants.{Index}
+use Rattle.refusal.specs.declared.IndexItem.the-variants.{NoLoaderSymbol}
+use Rattle.refusal.specs.declared.RangeAnswer.{RangeAnswer}
+use Rattle.refusal.specs.declared.RangeAnswer.the-variants as range
+use Rattle.refusal.specs.declared.Verdict.{Verdict}
+use Rattle.refusal.specs.declared.Verdict.the-variants as verdict
+use Rattle.refusal.specs.Order.{refuseIf}
+use Rattle.refusal.specs.Refusal.{numberOf, itemOf}
+use Rattle.loader.specs.declared.LoaderEntry.{LoaderEntry}
+use Rattle.loader.specs.declared.LoaderTables.{LoaderTables}
+use Rattle.loader.specs.Symbol.{entryStart, entryAt, nameIn}
+use Rattle.loadable.specs.declared.Loadable.{Loadable}
+use Rattle.loadable.specs.declared.LoadableAnswer.{LoadableAnswer}
+use Rattle.loadable.specs.declared.LoadableAnswer.the-variants as loadable
+use Rattle.loadable.specs.Loadable.{loadableAt}
+use Rattle.lookup.specs.declared.LoaderSymbolAnswer.{LoaderSymbolAnswer}
+use Rattle.lookup.specs.declared.LoaderSymbolAnswer.the-variants.{Found, Refused}
+
+-- 0, 1 and 2 are text, data and bss; the table's own start at 3
+unfoldable pub indexCheck : LoaderTables → ℕ → Verdict
+indexCheck t i = refuseIf (ltb i 3 || not (ltb i (3 + t .nsyms))) (Index (NoLoaderSymbol i))
+
+-- the symbol with index i of the module l
+unfoldable pub entryOf : List ℕ → Loadable → ℕ → LoaderEntry
+entryOf file l i = entryAt (l .layout .format) (entryStart (l .tables) (i - 3)) file
+
+abbrev pub symbolBy : Verdict → LoaderEntry → LoaderSymbolAnswer
+symbolBy verdict.Accepted e = Found e
+symbolBy (verdict.Refused x) e = Refused x
+
+unfoldable pub symbolIn : List ℕ → LoadableAnswer → ℕ → LoaderSymbolAnswer
+symbolIn file (loadable.Refused x) i = Refused x
+symbolIn file (loadable.Found l) i = symbolBy (indexCheck (l .tables) i) (entryOf file l i)
+
+unfoldable pub loaderSymbolAt : List ℕ → ℕ → LoaderSymbolAnswer
+loaderSymbolAt file i = symbolIn file (loadableAt file) i
+
+-- where its name lies, without its closing zero
+abbrev pub nameBy : Verdict → RangeAnswer → RangeAnswer
+nameBy verdict.Accepted r = r
+nameBy (verdict.Refused x) r = range.Refused x
+
+unfoldable pub nameOf : List ℕ → Loadable → ℕ → RangeAnswer
+nameOf file l i = nameIn file (l .layout .format) (l .tables .strings) (entryStart (l .tables) (i - 3)) i (entryOf file l i .name)
+
+unfoldable pub symbolNameIn : List ℕ → LoadableAnswer → ℕ → RangeAnswer
+symbolNameIn file (loadable.Refused x) i = range.Refused x
+symbolNameIn file (loadable.Found l) i = nameBy (indexCheck (l .tables) i) (nameOf file l i)
+
+unfoldable pub loaderNameAt : List ℕ → ℕ → RangeAnswer
+loaderNameAt file i = symbolNameIn file (loadableAt file) i
+
+-- document 01's number (0: accepted), item and values of the answer
+pub record LoaderSymbolReport : Type 0 where
+  pub number : ℕ
+  pub item : ℕ
+  pub value : ℕ
+  pub scnum : ℕ
+  pub smtype : ℕ
+  pub smclas : ℕ
+  pub ifile : ℕ
+  pub parm : ℕ
+
+abbrev pub reportOfLoaderSymbol : LoaderSymbolAnswer → LoaderSymbolReport
+reportOfLoaderSymbol (Found e) =
+    record { number = 0; item = 0; value = e .value; scnum = e .scnum; smtype = e .smtype; smclas = e .smclas; ifile = e .ifile; parm = e .parm }
+reportOfLoaderSymbol (Refused x) =
+    record { number = numberOf x; item = itemOf x; value = 0; scnum = 0; smtype = 0; smclas = 0; ifile = 0; parm = 0 }
+
+abbrev pub loaderSymbolReport : List ℕ → ℕ → LoaderSymbolReport
+loaderSymbolReport file i = reportOfLoaderSymbol (loaderSymbolAt file i)

@@ -1,0 +1,3 @@
+-- What the contracts of `plan` cite.
+pub mod Relocatable
+pub mod Import

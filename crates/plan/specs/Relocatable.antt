@@ -1,0 +1,106 @@
+-- The module in a file as builds and moves see it.
+use Prim.Native.Nat.{ℕ, zero, suc, _+_, _-_}
+use mathlib.Core.Bool.{cond}
+use mathlib.Core.List.{List, [], _∷_, _++_}
+use lib.Dec.{eqb}
+use lib.ListN.{replicate}
+use Rattle.format.specs.Layout.{addressLimit}
+use Rattle.format.specs.Range.{range, bytesOf}
+use Rattle.refusal.specs.declared.Refusal.{Refusal}
+use Rattle.refusal.specs.declared.Verdict.the-variants as verdict
+use Rattle.module.specs.declared.Anchor.{Anchor}
+use Rattle.module.specs.declared.Module.{Module}
+use Rattle.module.specs.declared.Parts.{Parts}
+use Rattle.loader.specs.declared.LoaderEntry.{LoaderEntry}
+use Rattle.loader.specs.Symbol.{entryStart, entryAt, isImported}
+use Rattle.relocation.specs.Relocation.{entryIn, placeAt, subtracts}
+use Rattle.loadable.specs.declared.Loadable.{Loadable}
+use Rattle.loadable.specs.declared.LoadableAnswer.{LoadableAnswer}
+use Rattle.loadable.specs.declared.LoadableAnswer.the-variants as loadable
+use Rattle.loadable.specs.Loadable.{loadableAt}
+use Rattle.history.specs.declared.Followed.{Followed}
+use Rattle.history.specs.declared.Followed.the-variants as followed
+use Rattle.history.specs.declared.Relocation.{Relocation}
+use Rattle.history.specs.Images.{Images, images}
+use Rattle.history.specs.Plan.{Anchored, Relocatable}
+
+-- which address the loader symbol with place k in the table follows: an import its own, a deferred import (file id 0) none, any other its section's
+unfoldable pub followedOf : Parts → ℕ → LoaderEntry → Followed
+followedOf p k e =
+    cond (isImported (e .smtype)) (cond (eqb (e .ifile) 0) followed.Nothing (followed.Import k (e .value)))
+    (cond (eqb (e .scnum) (p .text .number .0)) followed.Text followed.Data)
+
+unfoldable pub followedAt : List ℕ → Loadable → ℕ → Followed
+followedAt file l k = followedOf (l .layout .parts) k (entryAt (l .layout .format) (entryStart (l .tables) k) file)
+
+-- n symbols from place k
+unfoldable pub symbolsFrom : List ℕ → Loadable → ℕ → ℕ → List Followed
+symbolsFrom file l k zero = []
+symbolsFrom file l k (suc n) = followedAt file l k ∷ symbolsFrom file l (suc k) n
+
+-- relocation entry i as it is applied
+unfoldable pub relocationAt : List ℕ → Loadable → ℕ → Relocation
+relocationAt file l i =
+    record {
+      place = placeAt file (l .layout .format) (l .layout .parts) (l .tables) i;
+      minus = subtracts (entryIn file (l .layout .format) (l .tables) i .rtype);
+      symbol = entryIn file (l .layout .format) (l .tables) i .symbol;
+    }
+
+-- n entries from entry i
+unfoldable pub relocationsFrom : List ℕ → Loadable → ℕ → ℕ → List Relocation
+relocationsFrom file l i zero = []
+relocationsFrom file l i (suc n) = relocationAt file l i ∷ relocationsFrom file l (suc i) n
+
+-- the raw images: the text bytes; the data bytes, then zeros
+unfoldable pub rawText : List ℕ → Module → List ℕ
+rawText file m = bytesOf file (range (m .parts .text .start .0) (m .parts .text .size))
+
+unfoldable pub rawData : List ℕ → Module → List ℕ
+rawData file m =
+    bytesOf file (range (m .parts .«data» .start .0) (m .parts .«data» .size)) ++ replicate (m .image - m .parts .«data» .size) 0
+
+-- the entry point or the TOC anchor: section 0 means that there is none
+unfoldable pub anchorFollows : Parts → Anchor → Followed
+anchorFollows p a =
+    cond (eqb (a .section .0) 0) followed.Nothing (cond (eqb (a .section .0) (p .text .number .0)) followed.Text followed.Data)
+
+abbrev pub anchored : Parts → Anchor → Anchored
+anchored p a = record { follows = anchorFollows p a; address = a .address .0 }
+
+unfoldable pub relocatableOf : List ℕ → Loadable → Relocatable
+relocatableOf file l =
+    record {
+      verdict = verdict.Accepted;
+      raw = images (rawText file (l .layout)) (rawData file (l .layout));
+      textAddress = l .layout .parts .text .address .0;
+      dataAddress = l .layout .parts .«data» .address .0;
+      limit = addressLimit (l .layout .format);
+      symbols = symbolsFrom file l 0 (l .tables .nsyms);
+      entries = relocationsFrom file l 0 (l .tables .nreloc);
+      entry = anchored (l .layout .parts) (l .layout .entry);
+      toc = anchored (l .layout .parts) (l .layout .toc);
+    }
+
+-- a refused file: nothing to apply, and every call is refused by its verdict
+unfoldable pub noModule : Refusal → Relocatable
+noModule x =
+    record {
+      verdict = verdict.Refused x;
+      raw = images [] [];
+      textAddress = 0;
+      dataAddress = 0;
+      limit = 0;
+      symbols = [];
+      entries = [];
+      entry = record { follows = followed.Nothing; address = 0 };
+      toc = record { follows = followed.Nothing; address = 0 };
+    }
+
+unfoldable pub relocatableBy : List ℕ → LoadableAnswer → Relocatable
+relocatableBy file (loadable.Found l) = relocatableOf file l
+relocatableBy file (loadable.Refused x) = noModule x
+
+-- what any file is to builds and moves
+unfoldable pub relocatableAt : List ℕ → Relocatable
+relocatableAt file = relocatableBy file (loadableAt file)

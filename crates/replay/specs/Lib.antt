@@ -1,0 +1,2 @@
+-- What the contract of `replay` cites.
+pub mod Script

@@ -1,0 +1,3 @@
+-- Laws of the C answers.
+pub mod Number
+pub mod Inside

@@ -1,0 +1,2 @@
+-- What the contracts of `report_image` cite.
+pub mod Report

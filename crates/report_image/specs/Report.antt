@@ -1,0 +1,15 @@
+-- The answers of builds, moves and plan sheets as C reads them.
+use Rattle.image.specs.Report.{CallReport}
+use Rattle.sheet.specs.Sheet.{SheetReport, VerdictReport}
+use Rattle.report_image.specs.declared.CCall.{CCall}
+use Rattle.report_image.specs.declared.CSheet.{CSheet}
+use Rattle.report_image.specs.declared.CVerdict.{CVerdict}
+
+abbrev pub cCall : CallReport → CCall
+cCall r = record { number = r .number; item = r .item; hasentry = r .hasEntry; entry = r .entry; hastoc = r .hasToc; toc = r .toc }
+
+abbrev pub cSheet : SheetReport → CSheet
+cSheet r = record { number = r .number; item = r .item; text = r .text; «data» = r .dat; count = r .count }
+
+abbrev pub cVerdict : VerdictReport → CVerdict
+cVerdict r = record { number = r .number; item = r .item }

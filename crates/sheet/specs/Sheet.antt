@@ -1,0 +1,121 @@
+-- The plan sheet. w is how many bytes its two counts take: 2 here.
+use Prim.Native.Nat.{ℕ, zero, suc, _+_, _*_}
+use mathlib.Core.Bool.{not}
+use mathlib.Core.List.{List, [], _∷_, _++_}
+use lib.Dec.{eqb, ltb}
+use lib.ListN.{length}
+use Rattle.word.specs.Number.{fieldAt}
+use Rattle.update.specs.Update.{bytesOfNumber}
+use Rattle.refusal.specs.declared.LimitItem.the-variants.{SheetList}
+use Rattle.refusal.specs.declared.Refusal.the-variants as refusal
+use Rattle.refusal.specs.declared.RoomItem.the-variants.{SheetBuffer, AddressList}
+use Rattle.refusal.specs.declared.Verdict.{Verdict}
+use Rattle.refusal.specs.declared.Verdict.the-variants as verdict
+use Rattle.refusal.specs.Order.{_orElse_, refuseIf}
+use Rattle.refusal.specs.Refusal.{reportNumber, reportItem}
+use Rattle.sheet.specs.declared.SheetAnswer.{SheetAnswer}
+use Rattle.sheet.specs.declared.SheetAnswer.the-variants.{Found, Refused}
+use Rattle.sheet.specs.declared.SheetHead.{SheetHead}
+
+-- the sheet's list has at most this many addresses
+abbrev pub sheetListLimit : ℕ
+sheetListLimit = 4096
+
+-- the bytes before the list
+abbrev pub headLength : ℕ → ℕ
+headLength w = w + 8 + 8 + w
+
+abbrev pub sheetLength : ℕ → ℕ → ℕ
+sheetLength w k = headLength w + k * 8
+
+-- count 2, the text and data addresses, count k
+abbrev pub firstCount : ℕ → List ℕ → ℕ
+firstCount w s = fieldAt w 0 s
+
+unfoldable pub headOf : ℕ → List ℕ → SheetHead
+headOf w s =
+    record { text = record { 0 = fieldAt 8 w s }; «data» = record { 0 = fieldAt 8 (w + 8) s }; count = fieldAt w (w + 8 + 8) s }
+
+-- n numbers of 8 bytes from off
+unfoldable pub numbersFrom : List ℕ → ℕ → ℕ → List ℕ
+numbersFrom s off zero = []
+numbersFrom s off (suc n) = fieldAt 8 off s ∷ numbersFrom s (off + 8) n
+
+-- the k addresses
+unfoldable pub addressesOf : ℕ → List ℕ → List ℕ
+addressesOf w s = numbersFrom s (headLength w) (headOf w s .count)
+
+-- SHEET, LIMIT 2, SHEET
+unfoldable pub sheetCheck : ℕ → List ℕ → Verdict
+sheetCheck w s =
+    refuseIf (ltb (length s) (headLength w)) refusal.Sheet
+    orElse refuseIf (not (eqb (firstCount w s) 2)) refusal.Sheet
+    orElse refuseIf (ltb sheetListLimit (headOf w s .count)) (refusal.Limit SheetList)
+    orElse refuseIf (not (eqb (length s) (sheetLength w (headOf w s .count)))) refusal.Sheet
+
+-- ROOM 2: the lent list has exactly k places
+abbrev pub roomCheck : ℕ → SheetHead → Verdict
+roomCheck places h = refuseIf (not (eqb places (h .count))) (refusal.Room AddressList)
+
+unfoldable pub readCheck : ℕ → List ℕ → ℕ → Verdict
+readCheck w s places = sheetCheck w s orElse roomCheck places (headOf w s)
+
+abbrev pub sheetBy : Verdict → SheetHead → SheetAnswer
+sheetBy verdict.Accepted h = Found h
+sheetBy (verdict.Refused x) h = Refused x
+
+-- what a sheet says of itself: its addresses and how many places its list needs
+unfoldable pub headAnswer : ℕ → List ℕ → SheetAnswer
+headAnswer w s = sheetBy (sheetCheck w s) (headOf w s)
+
+-- what reading answers
+unfoldable pub readAnswer : ℕ → List ℕ → ℕ → SheetAnswer
+readAnswer w s places = sheetBy (readCheck w s places) (headOf w s)
+
+-- what the check accepts leaves `done` behind; a refusal what was there
+abbrev pub leaves : Verdict → List ℕ → List ℕ → List ℕ
+leaves verdict.Accepted done before = done
+leaves (verdict.Refused x) done before = before
+
+-- what reading leaves in the lent list
+unfoldable pub readList : ℕ → List ℕ → List ℕ → List ℕ
+readList w s list = leaves (readCheck w s (length list)) (addressesOf w s) list
+
+-- the bytes of a list's addresses
+unfoldable pub addressBytes : List ℕ → List ℕ
+addressBytes [] = []
+addressBytes (a ∷ rest) = bytesOfNumber 8 a ++ addressBytes rest
+
+-- the sheet of a plan
+unfoldable pub sheetBytes : ℕ → ℕ → ℕ → List ℕ → List ℕ
+sheetBytes w text dat list =
+    bytesOfNumber w 2 ++ (bytesOfNumber 8 text ++ (bytesOfNumber 8 dat ++ (bytesOfNumber w (length list) ++ addressBytes list)))
+
+-- LIMIT 2, ROOM 0
+unfoldable pub writeCheck : ℕ → ℕ → ℕ → Verdict
+writeCheck w k room =
+    refuseIf (ltb sheetListLimit k) (refusal.Limit SheetList) orElse refuseIf (not (eqb room (sheetLength w k))) (refusal.Room SheetBuffer)
+
+-- what writing leaves in the lent sheet
+unfoldable pub writeSheet : ℕ → ℕ → ℕ → List ℕ → List ℕ → List ℕ
+writeSheet w text dat list sheet = leaves (writeCheck w (length list) (length sheet)) (sheetBytes w text dat list) sheet
+
+-- document 01's number (0: accepted), item and values of the answer
+pub record SheetReport : Type 0 where
+  pub number : ℕ
+  pub item : ℕ
+  pub text : ℕ
+  pub dat : ℕ
+  pub count : ℕ
+
+abbrev pub reportOfSheet : SheetAnswer → SheetReport
+reportOfSheet (Found h) = record { number = 0; item = 0; text = h .text .0; dat = h .«data» .0; count = h .count }
+reportOfSheet (Refused x) =
+    record { number = reportNumber (verdict.Refused x); item = reportItem (verdict.Refused x); text = 0; dat = 0; count = 0 }
+
+pub record VerdictReport : Type 0 where
+  pub number : ℕ
+  pub item : ℕ
+
+abbrev pub reportOfVerdict : Verdict → VerdictReport
+reportOfVerdict v = record { number = reportNumber v; item = reportItem v }

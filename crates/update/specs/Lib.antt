@@ -1,0 +1,2 @@
+-- What the contracts of `update` cite.
+pub mod Update

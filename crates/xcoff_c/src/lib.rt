@@ -1,0 +1,232 @@
+// The C interface: every public operation under its C name, with no condition on its arguments.
+// A slice is passed as a pointer and a length. Answers are structs by value; a name is an offset and a length in the file.
+ghost use mathlib.Core.Path.{_≡_};
+ghost use Rattle.header.specs.Open.{openReport};
+ghost use Rattle.header.specs.Lookup.{sectionReport, sectionNameAt};
+ghost use Rattle.symbol.specs.Symbol.{symbolReport, symbolNameAt};
+ghost use Rattle.symbol.specs.Walk.{walkReport};
+ghost use Rattle.csect.specs.Csect.{csectReport};
+ghost use Rattle.loadable.specs.Loadable.{moduleReport};
+ghost use Rattle.lookup.specs.Symbol.{loaderSymbolReport, loaderNameAt};
+ghost use Rattle.lookup.specs.Import.{importAt};
+ghost use lib.ListN.{length};
+ghost use Rattle.sheet.specs.Sheet.{headAnswer, readAnswer, readList, writeCheck, writeSheet, reportOfSheet, reportOfVerdict};
+ghost use Rattle.history.specs.Images.{images};
+ghost use Rattle.history.specs.Call.{Call, build, answerOf, effect};
+ghost use Rattle.history.specs.Book.{bookImages, bookAfter};
+ghost use Rattle.plan.specs.Relocatable.{relocatableAt};
+ghost use Rattle.image.specs.Report.{reportOfCall};
+ghost use Rattle.replay.specs.Script.{callsOf};
+ghost use Rattle.report_image.specs.Report.{cCall, cSheet, cVerdict};
+ghost use Rattle.report.specs.Report.{cOpen, cSection, cRange, cSymbol, cWalk, cCsect, cModule, cLoaderSymbol};
+use format::SectionNumber;
+use format::SymbolIndex;
+use format::VirtualAddress;
+use image::Addresses;
+use lookup::ImportString;
+use report::CCsect;
+use report::CLoaderSymbol;
+use report::CModule;
+use report::COpen;
+use report::CRange;
+use report::CSection;
+use report::CSymbol;
+use report::CWalk;
+use report_image::CCall;
+use report_image::CSheet;
+use report_image::CVerdict;
+
+// Opens a file: its format and how much it holds.
+#[no_mangle]
+pub extern "C" fn xcoff_open(file: &[u8]) -> COpen
+    ensures { λ r. ⌜ r ≡ cOpen (openReport (now (file .entry))) ⌝ }
+{
+    report::report_open(header::open(file))
+}
+
+// The record of section `n`, from 1.
+#[no_mangle]
+pub extern "C" fn xcoff_section(file: &[u8], n: u64) -> CSection
+    ensures { λ r. ⌜ r ≡ cSection (sectionReport (now (file .entry)) (record { 0 = n })) ⌝ }
+{
+    report::report_section(header::section_at(file, SectionNumber(n)))
+}
+
+// Its name.
+#[no_mangle]
+pub extern "C" fn xcoff_section_name(file: &[u8], n: u64) -> CRange
+    ensures { λ r. ⌜ r ≡ cRange (sectionNameAt (now (file .entry)) (record { 0 = n })) ⌝ }
+{
+    report::report_range(header::section_name_range(file, SectionNumber(n)))
+}
+
+// The symbol table entry with index `i`, from 0.
+#[no_mangle]
+pub extern "C" fn xcoff_symbol(file: &[u8], i: u64) -> CSymbol
+    ensures { λ r. ⌜ r ≡ cSymbol (symbolReport (now (file .entry)) (record { 0 = i })) ⌝ }
+{
+    report::report_symbol(symbol::symbol_at(file, SymbolIndex(i)))
+}
+
+// Its name.
+#[no_mangle]
+pub extern "C" fn xcoff_symbol_name(file: &[u8], i: u64) -> CRange
+    ensures { λ r. ⌜ r ≡ cRange (symbolNameAt (now (file .entry)) (record { 0 = i })) ⌝ }
+{
+    report::report_range(symbol::symbol_name_range(file, SymbolIndex(i)))
+}
+
+// Walks the symbol table from its first entry.
+#[no_mangle]
+pub extern "C" fn xcoff_walk(file: &[u8]) -> CWalk
+    ensures { λ r. ⌜ r ≡ cWalk (walkReport (now (file .entry))) ⌝ }
+{
+    report::report_walk(symbol::walk(file))
+}
+
+// The csect entry of the symbol with index `i`.
+#[no_mangle]
+pub extern "C" fn xcoff_csect(file: &[u8], i: u64) -> CCsect
+    ensures { λ r. ⌜ r ≡ cCsect (csectReport (now (file .entry)) (record { 0 = i })) ⌝ }
+{
+    report::report_csect(csect::csect_at(file, SymbolIndex(i)))
+}
+
+// Judges a file as a loadable module.
+#[no_mangle]
+pub extern "C" fn xcoff_module(file: &[u8]) -> CModule
+    ensures { λ r. ⌜ r ≡ cModule (moduleReport (now (file .entry))) ⌝ }
+{
+    report::report_module(loadable::module_of(file))
+}
+
+// The loader symbol with index `i`, from 3.
+#[no_mangle]
+pub extern "C" fn xcoff_loader_symbol(file: &[u8], i: u64) -> CLoaderSymbol
+    ensures { λ r. ⌜ r ≡ cLoaderSymbol (loaderSymbolReport (now (file .entry)) i) ⌝ }
+{
+    report::report_loader_symbol(lookup::loader_symbol(file, i))
+}
+
+// Its name.
+#[no_mangle]
+pub extern "C" fn xcoff_loader_symbol_name(file: &[u8], i: u64) -> CRange
+    ensures { λ r. ⌜ r ≡ cRange (loaderNameAt (now (file .entry)) i) ⌝ }
+{
+    report::report_range(lookup::loader_symbol_name_range(file, i))
+}
+
+// The path of import id `n`, from 0.
+#[no_mangle]
+pub extern "C" fn xcoff_import_path(file: &[u8], n: u64) -> CRange
+    ensures { λ r. ⌜ r ≡ cRange (importAt (now (file .entry)) n ImportString.Path) ⌝ }
+{
+    report::report_range(lookup::import_range(file, n, ImportString::Path))
+}
+
+// Its base name.
+#[no_mangle]
+pub extern "C" fn xcoff_import_base(file: &[u8], n: u64) -> CRange
+    ensures { λ r. ⌜ r ≡ cRange (importAt (now (file .entry)) n ImportString.Base) ⌝ }
+{
+    report::report_range(lookup::import_range(file, n, ImportString::Base))
+}
+
+// Its archive member.
+#[no_mangle]
+pub extern "C" fn xcoff_import_member(file: &[u8], n: u64) -> CRange
+    ensures { λ r. ⌜ r ≡ cRange (importAt (now (file .entry)) n ImportString.Member) ⌝ }
+{
+    report::report_range(lookup::import_range(file, n, ImportString::Member))
+}
+
+// What a plan sheet says of itself: its addresses, and how many places its list needs.
+#[no_mangle]
+pub extern "C" fn xcoff_sheet_head(sheet: &[u8]) -> CSheet
+    ensures { λ r. ⌜ r ≡ cSheet (reportOfSheet (headAnswer 2 (now (sheet .entry)))) ⌝ }
+{
+    report_image::report_sheet(sheet::sheet_head(sheet))
+}
+
+// Reads a plan sheet into a list of exactly as many places as it has addresses.
+#[no_mangle]
+pub extern "C" fn xcoff_read_sheet(sheet: &[u8], list: &mut [u64]) -> CSheet
+    ensures answer { λ r. ⌜ r ≡ cSheet (reportOfSheet (readAnswer 2 (now (sheet .entry)) (length (now (list .entry))))) ⌝ }
+    ensures list { λ _. ⌜ now (list .exit) ≡ readList 2 (now (sheet .entry)) (now (list .entry)) ⌝ }
+{
+    report_image::report_sheet(sheet::read_sheet(sheet, list))
+}
+
+// Writes the sheet of a plan into a buffer of exactly its length.
+#[no_mangle]
+pub extern "C" fn xcoff_write_sheet(
+    text: u64,
+    data: u64,
+    list: &[u64],
+    sheet: &mut [u8],
+) -> CVerdict
+    ensures answer { λ r. ⌜ r ≡ cVerdict (reportOfVerdict (writeCheck 2 (length (now (list .entry))) (length (now (sheet .entry))))) ⌝ }
+    ensures sheet { λ _. ⌜ now (sheet .exit) ≡ writeSheet 2 text «data» (now (list .entry)) (now (sheet .entry)) ⌝ }
+{
+    report_image::report_verdict(sheet::write_sheet(
+        VirtualAddress(text),
+        VirtualAddress(data),
+        list,
+        sheet,
+    ))
+}
+
+// Builds the images of the module for a plan.
+#[no_mangle]
+pub extern "C" fn xcoff_build(
+    file: &[u8],
+    at: u64,
+    dataat: u64,
+    list: &[u64],
+    text: &mut [u8],
+    data: &mut [u8],
+) -> CCall
+    ensures answer { λ r. ⌜ r ≡ cCall (reportOfCall (answerOf (relocatableAt (now (file .entry))) (length (now (text .entry))) (length (now («data» .entry))) (build (record { text = at; dat = dataat; list = now (list .entry) })))) ⌝ }
+    ensures images { λ _. ⌜ images (now (text .exit)) (now («data» .exit)) ≡ effect (relocatableAt (now (file .entry))) (build (record { text = at; dat = dataat; list = now (list .entry) })) (images (now (text .entry)) (now («data» .entry))) ⌝ }
+{
+    let addresses = Addresses {
+        text: VirtualAddress(at),
+        data: VirtualAddress(dataat),
+    };
+    report_image::report_call(image::build_images(file, addresses, list, text, data))
+}
+
+// Moves images from one plan to another, taking the buffers as they are.
+#[no_mangle]
+pub extern "C" fn xcoff_move(
+    file: &[u8],
+    at: u64,
+    dataat: u64,
+    list: &[u64],
+    toat: u64,
+    todataat: u64,
+    tolist: &[u64],
+    text: &mut [u8],
+    data: &mut [u8],
+) -> CCall
+    ensures answer { λ r. ⌜ r ≡ cCall (reportOfCall (answerOf (relocatableAt (now (file .entry))) (length (now (text .entry))) (length (now («data» .entry))) (Call.move (record { text = at; dat = dataat; list = now (list .entry) }) (record { text = toat; dat = todataat; list = now (tolist .entry) })))) ⌝ }
+    ensures images { λ _. ⌜ images (now (text .exit)) (now («data» .exit)) ≡ effect (relocatableAt (now (file .entry))) (Call.move (record { text = at; dat = dataat; list = now (list .entry) }) (record { text = toat; dat = todataat; list = now (tolist .entry) })) (images (now (text .entry)) (now («data» .entry))) ⌝ }
+{
+    let from = Addresses {
+        text: VirtualAddress(at),
+        data: VirtualAddress(dataat),
+    };
+    let to = Addresses {
+        text: VirtualAddress(toat),
+        data: VirtualAddress(todataat),
+    };
+    report_image::report_call(image::move_images(file, from, list, to, tolist, text, data))
+}
+
+// Runs the calls that `script` encodes on the two buffers.
+#[no_mangle]
+pub extern "C" fn xcoff_replay(file: &[u8], script: &[u64], text: &mut [u8], data: &mut [u8])
+    ensures { λ _. ⌜ images (now (text .exit)) (now («data» .exit)) ≡ bookImages (relocatableAt (now (file .entry))) (bookAfter (relocatableAt (now (file .entry))) (callsOf (now (script .entry))) (images (now (text .entry)) (now («data» .entry)))) ⌝ }
+{
+    replay::replay(file, script, text, data)
+}

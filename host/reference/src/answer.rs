@@ -1,0 +1,261 @@
+//! Runs one operation and writes its answer down as a line of plain text, so
+//! that answers of different implementations can be compared.
+
+use crate::generate::Op;
+use crate::*;
+use std::ops::Range;
+
+/// The answer of one operation.
+#[derive(Clone, Debug, PartialEq, Eq)]
+pub struct Answer {
+    /// The whole answer with the buffers afterwards.
+    pub text: String,
+    /// Every refusal in it; for a list one per refused call.
+    pub refusals: Vec<Refusal>,
+}
+
+/// Bytes as hex; long ones by length and a sum.
+pub fn hex(bytes: &[u8]) -> String {
+    if bytes.len() > 4_096 {
+        let mut sum: u64 = 0xCBF2_9CE4_8422_2325;
+        for &byte in bytes {
+            sum = (sum ^ u64::from(byte)).wrapping_mul(0x0000_0100_0000_01B3);
+        }
+        return format!("long:{}:{sum:016x}", bytes.len());
+    }
+    let mut text = String::new();
+    for byte in bytes {
+        text += &format!("{byte:02x}");
+    }
+    text
+}
+
+fn list_text(list: &[u64]) -> String {
+    let all: Vec<String> = list.iter().map(|address| format!("{address:x}")).collect();
+    hex_or_sum(&all.join(","))
+}
+
+fn hex_or_sum(text: &str) -> String {
+    if text.len() > 4_096 {
+        return hex(text.as_bytes());
+    }
+    text.to_string()
+}
+
+fn refusal_text(refusal: &Refusal) -> String {
+    format!("refused {} {}", refusal.number, refusal.item)
+}
+
+fn section_text(section: &Section) -> String {
+    let raw = match &section.raw {
+        Some(range) => format!("{}+{}", range.start, range.len()),
+        None => "none".to_string(),
+    };
+    format!(
+        "{:x} {:x} {} {} {:x} {raw}",
+        section.paddr, section.vaddr, section.size, section.scnptr, section.flags
+    )
+}
+
+fn reached_text(reached: &Reached) -> String {
+    let one = |address: Option<u64>| match address {
+        Some(address) => format!("{address:x}"),
+        None => "none".to_string(),
+    };
+    format!("entry {} toc {}", one(reached.entry), one(reached.toc))
+}
+
+fn answer(result: Result<String, Refusal>, buffers: &str) -> Answer {
+    match result {
+        Ok(text) => Answer { text: format!("{text}{buffers}"), refusals: Vec::new() },
+        Err(refusal) => Answer {
+            text: format!("{}{buffers}", refusal_text(&refusal)),
+            refusals: vec![refusal],
+        },
+    }
+}
+
+/// Names by their bytes: where an empty one lies isn't fixed.
+fn name(file: &[u8], range: Result<Range<usize>, Refusal>) -> Answer {
+    answer(range.map(|range| format!("name {}", hex(&file[range]))), "")
+}
+
+fn images_text(text: &[u8], data: &[u8]) -> String {
+    format!(" | {} | {}", hex(text), hex(data))
+}
+
+/// Runs `op` on `file`.
+pub fn run(file: &[u8], op: &Op) -> Answer {
+    match op {
+        Op::Open => answer(
+            open(file).map(|summary| {
+                let sections: Vec<String> = summary.sections.iter().map(section_text).collect();
+                format!(
+                    "bits {} symbols {} opthdr {} flags {:x} sections [{}]",
+                    summary.bits,
+                    summary.symbols,
+                    summary.opthdr,
+                    summary.flags,
+                    sections.join("; ")
+                )
+            }),
+            "",
+        ),
+        Op::Section(n) => answer(section(file, *n).map(|section| section_text(&section)), ""),
+        Op::SectionName(n) => name(file, section_name(file, *n)),
+        Op::Symbol(index) => answer(
+            symbol(file, *index).map(|entry| {
+                format!(
+                    "value {:x} section {} type {:x} class {} aux {} name {}",
+                    entry.value,
+                    entry.section,
+                    entry.kind,
+                    entry.class,
+                    entry.auxiliaries,
+                    hex(&file[entry.name])
+                )
+            }),
+            "",
+        ),
+        Op::SymbolName(index) => name(file, symbol_name(file, *index)),
+        Op::Walk => match walk(file) {
+            Ok(found) => Answer {
+                text: match found.refusal {
+                    Some(refusal) => format!(
+                        "visited {} end {} {}",
+                        found.visited,
+                        found.end,
+                        refusal_text(&refusal)
+                    ),
+                    None => format!("visited {} end {} whole", found.visited, found.end),
+                },
+                refusals: found.refusal.into_iter().collect(),
+            },
+            Err(refusal) => answer(Err(refusal), ""),
+        },
+        Op::Csect(index) => answer(
+            csect(file, *index).map(|found| {
+                format!(
+                    "length {:x} alignment {} type {} class {}",
+                    found.length, found.alignment, found.kind, found.class
+                )
+            }),
+            "",
+        ),
+        Op::Module => answer(
+            module(file).map(|m| {
+                format!(
+                    "bits {} numbers {} {} {} {} addresses {:x} {:x} {:x} sizes {} {} {} image {} \
+                     symbols {} relocations {} ids {} entry {} {:x} toc {} {:x}",
+                    m.bits,
+                    m.text,
+                    m.data,
+                    m.bss,
+                    m.loader,
+                    m.text_address,
+                    m.data_address,
+                    m.bss_address,
+                    m.text_size,
+                    m.data_size,
+                    m.bss_size,
+                    m.data_image,
+                    m.loader_symbols,
+                    m.relocations,
+                    m.import_ids,
+                    m.entry_section,
+                    m.entry_address,
+                    m.toc_section,
+                    m.toc_address
+                )
+            }),
+            "",
+        ),
+        Op::Relocations => answer(
+            relocations(file).map(|entries| {
+                let all: Vec<String> = entries
+                    .iter()
+                    .map(|entry| {
+                        format!(
+                            "{:x} {} {:04x} {} {}{}",
+                            entry.address,
+                            entry.symbol,
+                            entry.kind,
+                            entry.section,
+                            if entry.subtract { "-" } else { "+" },
+                            entry.width
+                        )
+                    })
+                    .collect();
+                hex_or_sum(&all.join("; "))
+            }),
+            "",
+        ),
+        Op::LoaderSymbol(index) => answer(
+            loader_symbol(file, *index).map(|entry| {
+                format!(
+                    "value {:x} section {} type {:x} class {} id {} parameter {} name {}",
+                    entry.value,
+                    entry.section,
+                    entry.kind,
+                    entry.class,
+                    entry.file_id,
+                    entry.parameter,
+                    hex(&file[entry.name])
+                )
+            }),
+            "",
+        ),
+        Op::LoaderSymbolName(index) => name(file, loader_symbol_name(file, *index)),
+        Op::ImportPath(id) => name(file, import_path(file, *id)),
+        Op::ImportBase(id) => name(file, import_base(file, *id)),
+        Op::ImportMember(id) => name(file, import_member(file, *id)),
+        Op::Build { plan, text, data } => {
+            let (mut text, mut data) = (text.clone(), data.clone());
+            let result = build(file, plan, &mut text, &mut data);
+            answer(result.map(|reached| reached_text(&reached)), &images_text(&text, &data))
+        }
+        Op::Move { from, to, text, data } => {
+            let (mut text, mut data) = (text.clone(), data.clone());
+            let result = move_images(file, from, to, &mut text, &mut data);
+            answer(result.map(|reached| reached_text(&reached)), &images_text(&text, &data))
+        }
+        Op::Calls { calls, text, data } => {
+            let (mut text, mut data) = (text.clone(), data.clone());
+            let mut parts = Vec::new();
+            let mut refusals = Vec::new();
+            for call in calls {
+                let result = match call {
+                    Call::Build(plan) => build(file, plan, &mut text, &mut data),
+                    Call::Move(from, to) => move_images(file, from, to, &mut text, &mut data),
+                };
+                let one = answer(
+                    result.map(|reached| reached_text(&reached)),
+                    &images_text(&text, &data),
+                );
+                parts.push(one.text);
+                refusals.extend(one.refusals);
+            }
+            Answer { text: parts.join(" / "), refusals }
+        }
+        Op::ReadSheet { sheet, list } => {
+            let mut list = list.clone();
+            let result = read_sheet(sheet, &mut list);
+            answer(
+                result.map(|(text, data)| format!("text {text:x} data {data:x}")),
+                &format!(" | {}", list_text(&list)),
+            )
+        }
+        Op::WriteSheet { text, data, list, sheet } => {
+            let mut sheet = sheet.clone();
+            let result = write_sheet(*text, *data, list, &mut sheet);
+            answer(
+                result.map(|()| "written".to_string()),
+                &format!(" | {}", hex(&sheet)),
+            )
+        }
+        Op::List => {
+            let text = list_headers(file);
+            Answer { text: text.replace('\n', "\\n"), refusals: Vec::new() }
+        }
+    }
+}

@@ -1,0 +1,162 @@
+//! Plans, buffers, lists of calls, and operations that fit a made file.
+
+use super::make::{fitting_address, top, Made};
+use super::rng::Rng;
+use super::Op;
+use crate::{Call, Plan};
+
+/// A plan whose addresses fit; junk at ignored places.
+pub fn fitting_plan(rng: &mut Rng, made: &Made) -> Plan {
+    let text = if rng.chance(15) {
+        made.text_address
+    } else {
+        fitting_address(rng, made.bits, made.text_size)
+    };
+    let data = if rng.chance(15) {
+        made.data_address
+    } else {
+        fitting_address(rng, made.bits, made.image)
+    };
+    let mut list = Vec::new();
+    for symbol in &made.loader_symbols {
+        let counts = symbol.imported && symbol.file_id != 0;
+        list.push(if !counts {
+            rng.pick(&[0, u64::MAX, 0x1_0000_0000, rng_mix(list.len() as u64)])
+        } else if rng.chance(20) {
+            symbol.value
+        } else {
+            fitting_address(rng, made.bits, 0)
+        });
+    }
+    Plan { text, data, list }
+}
+
+fn rng_mix(n: u64) -> u64 {
+    (n + 1).wrapping_mul(0x9E37_79B9_7F4A_7C15)
+}
+
+/// An address at which `size` bytes don't fit; none where there is none.
+pub fn past_end(rng: &mut Rng, bits: u64, size: u64) -> Option<u64> {
+    let mut all = Vec::new();
+    let first = top(bits) - u128::from(size) + 1;
+    if bits == 32 {
+        all.extend_from_slice(&[1 << 32, (1 << 32) + 1, u64::MAX, 1 << 63]);
+    }
+    if size > 1 {
+        all.extend_from_slice(&[first as u64, (top(bits) - 1) as u64]);
+    }
+    if all.is_empty() {
+        return None;
+    }
+    Some(rng.pick(&all))
+}
+
+/// Buffers of the right lengths with any contents.
+pub fn buffers(rng: &mut Rng, made: &Made) -> (Vec<u8>, Vec<u8>) {
+    let image = made.image.min(crate::IMAGE_LIMIT);
+    (rng.bytes(made.text_size as usize), rng.bytes(image as usize))
+}
+
+/// Buffers of lengths that are right most times.
+pub fn any_buffers(rng: &mut Rng, made: &Made) -> (Vec<u8>, Vec<u8>) {
+    let (mut text, mut data) = buffers(rng, made);
+    if rng.chance(6) {
+        let length = rng.below(text.len() as u64 + 9) as usize;
+        text.resize(length, 0x5A);
+    }
+    if rng.chance(6) {
+        let length = rng.below(data.len() as u64 + 9) as usize;
+        data.resize(length, 0x5A);
+    }
+    (text, data)
+}
+
+/// A plan that fits most times.
+pub fn any_plan(rng: &mut Rng, made: &Made) -> Plan {
+    let mut plan = fitting_plan(rng, made);
+    if rng.chance(5) {
+        let length = rng.below(made.loader_symbols.len() as u64 + 3) as usize;
+        plan.list.resize(length, 1);
+    }
+    if rng.chance(5) {
+        plan.text = past_end(rng, made.bits, made.text_size).unwrap_or(u64::MAX);
+    }
+    if rng.chance(5) {
+        plan.data = past_end(rng, made.bits, made.image).unwrap_or(u64::MAX);
+    }
+    if rng.chance(5) && !plan.list.is_empty() {
+        let i = rng.below(plan.list.len() as u64) as usize;
+        plan.list[i] = rng.pick(&[u64::MAX, 1 << 32, 0xFFFF_FFFF]);
+    }
+    plan
+}
+
+/// Builds and moves, most of them chained, some from a plan never reached.
+pub fn call_list(rng: &mut Rng, made: &Made) -> Vec<Call> {
+    let plans: Vec<Plan> = (0..rng.between(2, 4)).map(|_| any_plan(rng, made)).collect();
+    let mut calls = Vec::new();
+    let mut last = rng.pick(&plans);
+    for i in 0..rng.between(1, 7) {
+        let to = rng.pick(&plans);
+        if rng.chance(if i == 0 { 60 } else { 15 }) {
+            calls.push(Call::Build(to.clone()));
+        } else {
+            let from = if rng.chance(75) { last } else { rng.pick(&plans) };
+            calls.push(Call::Move(from, to.clone()));
+        }
+        last = to;
+    }
+    calls
+}
+
+/// A build, a move or a list of calls.
+pub fn image_op(rng: &mut Rng, made: &Made) -> Op {
+    let (text, data) = any_buffers(rng, made);
+    match rng.below(4) {
+        0 => Op::Build { plan: any_plan(rng, made), text, data },
+        1 => Op::Move { from: any_plan(rng, made), to: any_plan(rng, made), text, data },
+        _ => Op::Calls { calls: call_list(rng, made), text, data },
+    }
+}
+
+/// An index at or around the ends of a table of `count`, from `first`.
+pub fn near(rng: &mut Rng, first: u64, count: u64) -> u64 {
+    if count > 0 && rng.chance(80) {
+        return first + rng.below(count);
+    }
+    rng.pick(&[0, first, first + count, first + count + 1, 1 << 32, u64::MAX])
+}
+
+/// An operation that gives a refusal of opening.
+pub fn reveal_open(rng: &mut Rng, made: &Made) -> Op {
+    match rng.below(8) {
+        0 => Op::Section(near(rng, 1, made.flags.len() as u64)),
+        1 => Op::SectionName(near(rng, 1, made.flags.len() as u64)),
+        2 => Op::Symbol(near(rng, 0, made.symbol_count)),
+        3 => Op::SymbolName(near(rng, 0, made.symbol_count)),
+        4 => Op::Csect(near(rng, 0, made.symbol_count)),
+        5 => Op::Walk,
+        _ => Op::Open,
+    }
+}
+
+/// An operation that gives a refusal of the module.
+pub fn reveal_module(rng: &mut Rng, made: &Made) -> Op {
+    match rng.below(10) {
+        0 => Op::LoaderSymbol(near(rng, 3, made.loader_symbols.len() as u64)),
+        1 => Op::LoaderSymbolName(near(rng, 3, made.loader_symbols.len() as u64)),
+        2 => Op::ImportPath(near(rng, 0, made.ids)),
+        3 => Op::ImportBase(near(rng, 0, made.ids)),
+        4 => Op::ImportMember(near(rng, 0, made.ids)),
+        5 => Op::Relocations,
+        6 => {
+            let (text, data) = buffers(rng, made);
+            Op::Build { plan: any_plan(rng, made), text, data }
+        }
+        7 => {
+            let (text, data) = buffers(rng, made);
+            Op::Move { from: any_plan(rng, made), to: any_plan(rng, made), text, data }
+        }
+        _ => Op::Module,
+    }
+}

@@ -1,0 +1,81 @@
+//! A plain second reading of document 01 ("the exact rules").
+//!
+//! Each module follows one section of document 01, in its order:
+//! `opening`, `symbols`, `module`, `images` (plans, images, moves, the book),
+//! `sheet`, `lister`. `generate` makes test cases, `answer` runs one operation
+//! of a case and writes its answer down.
+#![forbid(unsafe_code)]
+
+pub mod answer;
+pub mod bytes;
+pub mod generate;
+pub mod images;
+pub mod lister;
+pub mod module;
+pub mod opening;
+pub mod sheet;
+pub mod symbols;
+
+pub use images::{book, build, move_images, Call, Plan, Reached};
+pub use lister::list_headers;
+pub use module::{
+    import_base, import_member, import_path, loader_symbol, loader_symbol_name, loader_symbols,
+    module, relocations, LoaderSymbol, Module, Relocation,
+};
+pub use opening::{open, section, section_name, Section, Summary};
+pub use sheet::{read_sheet, write_sheet};
+pub use symbols::{csect, symbol, symbol_name, walk, Csect, Symbol, Walk};
+
+/// A refusal: its number and its item, 0 where none is named.
+#[derive(Clone, Copy, Debug, PartialEq, Eq)]
+pub struct Refusal {
+    pub number: u64,
+    pub item: u64,
+}
+
+pub const SHORT: u64 = 1;
+pub const MAGIC: u64 = 2;
+pub const LIMIT: u64 = 3;
+pub const KIND: u64 = 4;
+pub const BOUNDS: u64 = 5;
+pub const ADDRESS: u64 = 6;
+pub const STRINGS: u64 = 7;
+pub const INDEX: u64 = 8;
+pub const AUX: u64 = 9;
+pub const NAME: u64 = 10;
+pub const SECTION: u64 = 11;
+pub const CSECT: u64 = 12;
+pub const MODULE: u64 = 13;
+pub const THREAD: u64 = 14;
+pub const LOADER: u64 = 15;
+pub const LSYM: u64 = 16;
+pub const LREL: u64 = 17;
+pub const OVERLAP: u64 = 18;
+pub const PLAN: u64 = 19;
+pub const ROOM: u64 = 20;
+pub const SHEET: u64 = 21;
+
+/// The word of a refusal number.
+pub fn word(number: u64) -> &'static str {
+    const WORDS: [&str; 22] = [
+        "none", "SHORT", "MAGIC", "LIMIT", "KIND", "BOUNDS", "ADDRESS", "STRINGS", "INDEX", "AUX",
+        "NAME", "SECTION", "CSECT", "MODULE", "THREAD", "LOADER", "LSYM", "LREL", "OVERLAP",
+        "PLAN", "ROOM", "SHEET",
+    ];
+    match WORDS.get(number as usize) {
+        Some(word) => word,
+        None => "unknown",
+    }
+}
+
+/// Limits: passed means strictly greater.
+pub const FILE_LIMIT: u64 = 16_777_216;
+pub const SECTION_LIMIT: u64 = 32;
+pub const LOADER_SYMBOL_LIMIT: u64 = 4_096;
+pub const RELOCATION_LIMIT: u64 = 4_096;
+pub const IMAGE_LIMIT: u64 = 16_777_216;
+
+/// Short form for giving a refusal back.
+pub(crate) fn refuse<T>(number: u64, item: u64) -> Result<T, Refusal> {
+    Err(Refusal { number, item })
+}

@@ -1,0 +1,228 @@
+//! Document 01, "Symbols and csects".
+
+use crate::bytes::{by, number};
+use crate::opening::{open, Summary};
+use crate::{refuse, Refusal, AUX, CSECT, INDEX, NAME, SECTION};
+use std::ops::Range;
+
+#[derive(Clone, Debug, PartialEq, Eq)]
+pub struct Symbol {
+    pub index: u64,
+    pub value: u64,
+    /// `n_scnum`, signed.
+    pub section: i64,
+    /// `n_type`.
+    pub kind: u64,
+    /// `n_sclass`.
+    pub class: u64,
+    /// `n_numaux`.
+    pub auxiliaries: u64,
+    /// Where the name lies in the file.
+    pub name: Range<usize>,
+}
+
+/// What the walk found.
+#[derive(Clone, Debug, PartialEq, Eq)]
+pub struct Walk {
+    /// Entries that were read, without auxiliaries.
+    pub visited: u64,
+    /// The index where it ended: the table's length, or the refused one.
+    pub end: u64,
+    /// The refusal that ended it.
+    pub refusal: Option<Refusal>,
+}
+
+pub const ER: u64 = 0;
+pub const SD: u64 = 1;
+pub const LD: u64 = 2;
+pub const CM: u64 = 3;
+
+#[derive(Clone, Debug, PartialEq, Eq)]
+pub struct Csect {
+    pub length: u64,
+    /// Alignment log: the top 5 bits of `x_smtyp`.
+    pub alignment: u64,
+    /// The low 3 bits of `x_smtyp`: 0 ER, 1 SD, 2 LD, 3 CM.
+    pub kind: u64,
+    /// `x_smclas`.
+    pub class: u64,
+}
+
+/// Reads the entry at `index`: any index, also one inside auxiliaries.
+pub fn symbol(file: &[u8], index: u64) -> Result<Symbol, Refusal> {
+    let summary = open(file)?;
+    read_entry(file, &summary, index)
+}
+
+/// Where the name of the entry at `index` lies.
+pub fn symbol_name(file: &[u8], index: u64) -> Result<Range<usize>, Refusal> {
+    Ok(symbol(file, index)?.name)
+}
+
+/// Where the 18 bytes at `index` start; `index` is below the count.
+fn place(summary: &Summary, index: u64) -> usize {
+    summary.symptr as usize + 18 * index as usize
+}
+
+/// Order: INDEX, AUX, SECTION, NAME.
+fn read_entry(file: &[u8], summary: &Summary, index: u64) -> Result<Symbol, Refusal> {
+    if index >= summary.symbols {
+        return refuse(INDEX, index);
+    }
+    let at = place(summary, index);
+    let auxiliaries = number(file, at + 17, 1);
+    if index + 1 + auxiliaries > summary.symbols {
+        return refuse(AUX, index);
+    }
+    let section = i64::from(number(file, at + 12, 2) as u16 as i16);
+    if section < -2 || section > summary.sections.len() as i64 {
+        return refuse(SECTION, index);
+    }
+    let name = match read_name(file, summary, at) {
+        Some(name) => name,
+        None => return refuse(NAME, index),
+    };
+    let value = if summary.bits == 32 {
+        number(file, at + 8, 4)
+    } else {
+        number(file, at, 8)
+    };
+    Ok(Symbol {
+        index,
+        value,
+        section,
+        kind: number(file, at + 14, 2),
+        class: number(file, at + 16, 1),
+        auxiliaries,
+        name,
+    })
+}
+
+/// The name of the entry that starts at `at`; none for a bad offset.
+fn read_name(file: &[u8], summary: &Summary, at: usize) -> Option<Range<usize>> {
+    if summary.bits == 32 && number(file, at, 4) != 0 {
+        return Some(short_name(file, at));
+    }
+    let offset = number(file, at + by(summary.bits, 4, 8), 4) as usize;
+    if offset == 0 {
+        // The empty name; 01 leaves its place open.
+        return Some(at..at);
+    }
+    if offset < 4 || offset >= summary.strings.len() {
+        return None;
+    }
+    let start = summary.strings.start + offset;
+    for end in start..summary.strings.end {
+        if file[end] == 0 {
+            return Some(start..end);
+        }
+    }
+    None
+}
+
+/// The 8 bytes at `at` up to the first zero.
+pub(crate) fn short_name(file: &[u8], at: usize) -> Range<usize> {
+    let mut end = at;
+    while end < at + 8 && file[end] != 0 {
+        end += 1;
+    }
+    at..end
+}
+
+/// Walks the entries from 0, by 1 + auxiliaries.
+pub fn walk(file: &[u8]) -> Result<Walk, Refusal> {
+    let summary = open(file)?;
+    let mut visited = 0;
+    let mut index = 0;
+    while index < summary.symbols {
+        match read_entry(file, &summary, index) {
+            Ok(entry) => {
+                visited += 1;
+                index += 1 + entry.auxiliaries;
+            }
+            Err(refusal) => {
+                return Ok(Walk {
+                    visited,
+                    end: index,
+                    refusal: Some(refusal),
+                });
+            }
+        }
+    }
+    Ok(Walk {
+        visited,
+        end: index,
+        refusal: None,
+    })
+}
+
+/// The csect entry of the symbol at `index`.
+pub fn csect(file: &[u8], index: u64) -> Result<Csect, Refusal> {
+    let summary = open(file)?;
+    let entry = read_entry(file, &summary, index)?;
+    let found = match own_csect(file, &summary, &entry) {
+        Some(found) => found,
+        None => return refuse(CSECT, index),
+    };
+    if found.kind == LD && !has_container(file, &summary, &found, index) {
+        return refuse(CSECT, index);
+    }
+    Ok(found)
+}
+
+/// The csect entry of `entry`, judged by all rules but that for an LD's container.
+fn own_csect(file: &[u8], summary: &Summary, entry: &Symbol) -> Option<Csect> {
+    if entry.class != 2 && entry.class != 107 && entry.class != 111 {
+        return None;
+    }
+    if entry.auxiliaries == 0 {
+        return None;
+    }
+    // The last auxiliary.
+    let at = place(summary, entry.index + entry.auxiliaries);
+    if summary.bits == 64 && number(file, at + 17, 1) != 251 {
+        return None;
+    }
+    let low = number(file, at, 4);
+    let high = if summary.bits == 64 {
+        number(file, at + 12, 4)
+    } else {
+        0
+    };
+    let smtyp = number(file, at + 10, 1);
+    let found = Csect {
+        length: (high << 32) + low,
+        alignment: smtyp >> 3,
+        kind: smtyp & 7,
+        class: number(file, at + 11, 1),
+    };
+    if found.kind > 3 {
+        return None;
+    }
+    if found.kind == SD || found.kind == CM {
+        let allowed = matches!(found.class, 0..=13 | 15..=18 | 20..=22);
+        if !allowed {
+            return None;
+        }
+    }
+    if found.kind == SD && (found.class == 9 || found.class == 11) {
+        return None;
+    }
+    Some(found)
+}
+
+/// Whether an LD's length field is a smaller index whose own entry reads as an
+/// SD csect.
+fn has_container(file: &[u8], summary: &Summary, ld: &Csect, index: u64) -> bool {
+    if ld.length >= index {
+        return false;
+    }
+    let entry = match read_entry(file, summary, ld.length) {
+        Ok(entry) => entry,
+        Err(_) => return false,
+    };
+    match own_csect(file, summary, &entry) {
+        Some(container) => container.kind == SD,
+        None => false,
+    }
+}

@@ -1,0 +1,274 @@
+//! Laws over generated cases.
+
+use reference::generate::damage::{self, ROWS, STEPS};
+use reference::generate::make::{self, Made, Wish};
+use reference::generate::plans::{buffers, fitting_plan};
+use reference::generate::rng::Rng;
+use reference::generate::{case, Op};
+use reference::*;
+
+const SEEDS: u64 = 3_000;
+
+#[test]
+fn the_same_seed_gives_the_same_case() {
+    for seed in 0..300 {
+        let (one, other) = (case(seed), case(seed));
+        assert_eq!(one.file, other.file);
+        assert_eq!(one.ops, other.ops);
+        assert_eq!(one.label, other.label);
+    }
+}
+
+#[test]
+fn made_modules_are_accepted_and_objects_open() {
+    for seed in 0..SEEDS {
+        let mut rng = Rng::new(seed);
+        let wish = Wish { rich: seed % 2 == 0, low: seed % 3 == 0, ..Wish::default() };
+        let made = make::module(&mut rng, &wish);
+        let found = module(&made.bytes).expect("a made module");
+        assert_eq!(found.data_image, made.image);
+        assert_eq!(found.text_size, made.text_size);
+        assert_eq!(found.relocations, made.entries.len() as u64);
+        assert_eq!(found.loader_symbols, made.loader_symbols.len() as u64);
+        assert_eq!(found.import_ids, made.ids);
+        check_symbols(&made);
+        let made = make::object(&mut rng, &wish);
+        assert!(open(&made.bytes).is_ok());
+        check_symbols(&made);
+    }
+}
+
+/// The walk meets just the entries that were made, and csects read as made.
+fn check_symbols(made: &Made) {
+    let found = walk(&made.bytes).unwrap();
+    assert_eq!(found.refusal, None);
+    assert_eq!(found.visited, made.symbols.len() as u64);
+    assert_eq!(found.end, made.symbol_count);
+    for symbol in &made.symbols {
+        let read = csect(&made.bytes, symbol.index);
+        match symbol.csect {
+            Some(kind) => assert_eq!(read.unwrap().kind, kind),
+            None => assert_eq!(read, Err(Refusal { number: CSECT, item: symbol.index })),
+        }
+    }
+}
+
+#[test]
+fn every_damage_gives_its_refusal() {
+    for which in 0..damage::count() {
+        let number = if which < STEPS.len() {
+            STEPS[which].number
+        } else {
+            ROWS[which - STEPS.len()].number
+        };
+        let times = if which == 0 { 3 } else { 60 };
+        for seed in 0..times {
+            let mut rng = Rng::new(1_000 * which as u64 + seed);
+            let (name, hurt) = damage::single(&mut rng, which);
+            assert_eq!(hurt.refusal.number, number, "{name}");
+            let answer = answer::run(&hurt.made.bytes, &hurt.op);
+            assert_eq!(
+                answer.refusals,
+                vec![hurt.refusal],
+                "{name}, seed {seed}, {}",
+                hurt.op.word()
+            );
+        }
+    }
+}
+
+#[test]
+fn the_earlier_of_two_damages_is_given() {
+    for seed in 0..20_000 {
+        let (name, hurt) = damage::pair(&mut Rng::new(seed));
+        let answer = answer::run(&hurt.made.bytes, &hurt.op);
+        assert_eq!(answer.refusals, vec![hurt.refusal], "{name}, seed {seed}");
+    }
+}
+
+/// Runs the calls; gives the images after each.
+fn run_calls(file: &[u8], calls: &[Call], text: &[u8], data: &[u8]) -> Vec<(Vec<u8>, Vec<u8>)> {
+    let (mut text, mut data) = (text.to_vec(), data.to_vec());
+    let mut all = Vec::new();
+    for call in calls {
+        let (old_text, old_data) = (text.clone(), data.clone());
+        let result = match call {
+            Call::Build(plan) => build(file, plan, &mut text, &mut data),
+            Call::Move(from, to) => move_images(file, from, to, &mut text, &mut data),
+        };
+        if result.is_err() {
+            assert!(text == old_text && data == old_data, "a refusal changed a byte");
+        }
+        all.push((text.clone(), data.clone()));
+    }
+    all
+}
+
+#[test]
+fn the_book_equals_running_the_calls() {
+    let mut accepted = 0;
+    for seed in 0..SEEDS {
+        let case = case(seed);
+        for op in &case.ops {
+            if let Op::Calls { calls, text, data } = op {
+                if data.len() > 1_000_000 {
+                    continue;
+                }
+                let after = run_calls(&case.file, calls, text, data);
+                for n in 0..calls.len() {
+                    assert_eq!(book(&case.file, &calls[..=n], text, data), after[n], "seed {seed}");
+                }
+                if let Some(last) = after.last() {
+                    accepted += u64::from(last.0 != *text || last.1 != *data);
+                }
+            }
+        }
+    }
+    assert!(accepted > 300, "{accepted} lists changed their images");
+}
+
+#[test]
+fn chains_of_moves() {
+    for seed in 0..SEEDS {
+        let mut rng = Rng::new(seed);
+        let made = make::module(&mut rng, &Wish { rich: seed % 2 == 0, ..Wish::default() });
+        let file = &made.bytes;
+        let plans: Vec<Plan> = (0..3).map(|_| fitting_plan(&mut rng, &made)).collect();
+        let (p, q, r) = (&plans[0], &plans[1], &plans[2]);
+        let built = |plan: &Plan, rng: &mut Rng| {
+            let (mut text, mut data) = buffers(rng, &made);
+            let reached = build(file, plan, &mut text, &mut data).expect("a fitting plan");
+            (text, data, reached)
+        };
+        let at_p = built(p, &mut rng);
+        let at_q = built(q, &mut rng);
+        let at_r = built(r, &mut rng);
+        let (mut text, mut data) = (at_p.0.clone(), at_p.1.clone());
+        let to_q = move_images(file, p, q, &mut text, &mut data).unwrap();
+        assert_eq!((&text, &data, to_q), (&at_q.0, &at_q.1, at_q.2));
+        let same = move_images(file, q, q, &mut text, &mut data).unwrap();
+        assert_eq!((&text, &data, same), (&at_q.0, &at_q.1, at_q.2));
+        let to_r = move_images(file, q, r, &mut text, &mut data).unwrap();
+        assert_eq!((&text, &data, to_r), (&at_r.0, &at_r.1, at_r.2));
+        let back = move_images(file, r, p, &mut text, &mut data).unwrap();
+        assert_eq!((&text, &data, back), (&at_p.0, &at_p.1, at_p.2));
+
+        // A move changes nothing outside the fields.
+        let (start_text, start_data) = buffers(&mut rng, &made);
+        let (mut text, mut data) = (start_text.clone(), start_data.clone());
+        move_images(file, p, r, &mut text, &mut data).unwrap();
+        let mut inside = [vec![false; text.len()], vec![false; data.len()]];
+        for entry in relocations(file).unwrap() {
+            let (image, start) = if entry.section == made.text {
+                (0, made.text_address)
+            } else {
+                (1, made.data_address)
+            };
+            let at = (entry.address - start) as usize;
+            for place in &mut inside[image][at..at + entry.width as usize / 8] {
+                *place = true;
+            }
+        }
+        for i in 0..text.len() {
+            assert!(inside[0][i] || text[i] == start_text[i]);
+        }
+        for i in 0..data.len() {
+            assert!(inside[1][i] || data[i] == start_data[i]);
+        }
+    }
+}
+
+#[test]
+fn own_addresses_give_the_raw_bytes() {
+    for seed in 0..SEEDS {
+        let mut rng = Rng::new(seed);
+        let made = make::module(&mut rng, &Wish::default());
+        let list = made.loader_symbols.iter().map(|symbol| symbol.value).collect();
+        let plan = Plan { text: made.text_address, data: made.data_address, list };
+        let (mut text, mut data) = buffers(&mut rng, &made);
+        build(&made.bytes, &plan, &mut text, &mut data).unwrap();
+        let summary = open(&made.bytes).unwrap();
+        let raw = |n: u64| match &summary.sections[n as usize - 1].raw {
+            Some(range) => made.bytes[range.clone()].to_vec(),
+            None => Vec::new(),
+        };
+        assert_eq!(text, raw(made.text));
+        assert_eq!(data[..made.data_size as usize], raw(made.data));
+        assert!(data[made.data_size as usize..].iter().all(|&byte| byte == 0));
+    }
+}
+
+#[test]
+fn ignored_places_do_not_matter() {
+    for seed in 0..SEEDS {
+        let mut rng = Rng::new(seed);
+        let made = make::module(&mut rng, &Wish { rich: true, ..Wish::default() });
+        let plan = fitting_plan(&mut rng, &made);
+        let mut other = plan.clone();
+        for (i, symbol) in made.loader_symbols.iter().enumerate() {
+            if !symbol.imported || symbol.file_id == 0 {
+                other.list[i] = rng.next();
+            }
+        }
+        let (mut text, mut data) = buffers(&mut rng, &made);
+        let one = build(&made.bytes, &plan, &mut text, &mut data).unwrap();
+        let (mut other_text, mut other_data) = buffers(&mut rng, &made);
+        let two = build(&made.bytes, &other, &mut other_text, &mut other_data).unwrap();
+        assert_eq!((one, text, data), (two, other_text, other_data));
+    }
+}
+
+#[test]
+fn sheets_come_back() {
+    for seed in 0..300 {
+        let mut rng = Rng::new(seed);
+        let k = if seed == 0 { 4_096 } else { rng.below(20) as usize };
+        let list = damage::junk_list(&mut rng, k);
+        let (text, data) = (rng.next(), rng.next());
+        let mut sheet = rng.bytes(20 + 8 * k);
+        write_sheet(text, data, &list, &mut sheet).unwrap();
+        let mut read = damage::junk_list(&mut rng, k);
+        assert_eq!(read_sheet(&sheet, &mut read), Ok((text, data)));
+        assert_eq!(read, list);
+        // And a sheet that was read writes back as the same bytes.
+        let sheet = damage::good_sheet(&mut rng, k);
+        let (text, data) = read_sheet(&sheet, &mut read).unwrap();
+        let mut again = rng.bytes(20 + 8 * k);
+        write_sheet(text, data, &read, &mut again).unwrap();
+        assert_eq!(again, sheet);
+    }
+}
+
+#[test]
+fn a_refusal_changes_no_byte() {
+    for seed in 0..SEEDS {
+        let case = case(seed);
+        for op in &case.ops {
+            match op {
+                Op::Build { plan, text, data } => {
+                    if data.len() < 1_000_000 {
+                        run_calls(&case.file, &[Call::Build(plan.clone())], text, data);
+                    }
+                }
+                Op::Move { from, to, text, data } => {
+                    if data.len() < 1_000_000 {
+                        run_calls(&case.file, &[Call::Move(from.clone(), to.clone())], text, data);
+                    }
+                }
+                Op::ReadSheet { sheet, list } => {
+                    let mut after = list.clone();
+                    if read_sheet(sheet, &mut after).is_err() {
+                        assert_eq!(after, *list);
+                    }
+                }
+                Op::WriteSheet { text, data, list, sheet } => {
+                    let mut after = sheet.clone();
+                    if write_sheet(*text, *data, list, &mut after).is_err() {
+                        assert_eq!(after, *sheet);
+                    }
+                }
+                _ => {}
+            }
+        }
+    }
+}

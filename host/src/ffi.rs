@@ -1,0 +1,314 @@
+//! The C interface of the proved library (include/xcoff.h), and all unsafe code of this package.
+//!
+//! Each function takes a slice, which Rust guarantees to be readable and unchanged during the call: that is all the
+//! library asks. A slice is passed as a pointer and a length.
+
+#[repr(C)]
+pub struct Open {
+    pub number: u64,
+    pub item: u64,
+    pub bits: u64,
+    pub sections: u64,
+    pub symbols: u64,
+    pub opthdr: u64,
+    pub flags: u64,
+}
+
+#[repr(C)]
+pub struct Section {
+    pub number: u64,
+    pub item: u64,
+    pub paddr: u64,
+    pub vaddr: u64,
+    pub size: u64,
+    pub scnptr: u64,
+    pub flag: u64,
+    pub raw: u64,
+}
+
+#[repr(C)]
+pub struct Range {
+    pub number: u64,
+    pub item: u64,
+    pub offset: u64,
+    pub length: u64,
+}
+
+#[repr(C)]
+pub struct Symbol {
+    pub number: u64,
+    pub item: u64,
+    pub value: u64,
+    pub scnum: i64,
+    pub ntype: u64,
+    pub sclass: u64,
+    pub numaux: u64,
+}
+
+#[repr(C)]
+pub struct Cause {
+    pub number: u64,
+    pub item: u64,
+}
+
+#[repr(C)]
+pub struct Walk {
+    pub number: u64,
+    pub item: u64,
+    pub visited: u64,
+    pub end: u64,
+    pub cause: Cause,
+}
+
+#[repr(C)]
+pub struct Csect {
+    pub number: u64,
+    pub item: u64,
+    pub kind: u64,
+    pub align: u64,
+    pub smclas: u64,
+    pub length: u64,
+}
+
+#[repr(C)]
+pub struct Part {
+    pub number: u64,
+    pub address: u64,
+    pub size: u64,
+}
+
+#[repr(C)]
+pub struct Anchor {
+    pub section: u64,
+    pub address: u64,
+}
+
+#[repr(C)]
+pub struct Module {
+    pub number: u64,
+    pub item: u64,
+    pub bits: u64,
+    pub text: Part,
+    pub data: Part,
+    pub bss: Part,
+    pub loader: u64,
+    pub image: u64,
+    pub symbols: u64,
+    pub relocations: u64,
+    pub ids: u64,
+    pub entry: Anchor,
+    pub toc: Anchor,
+}
+
+#[repr(C)]
+pub struct LoaderSymbol {
+    pub number: u64,
+    pub item: u64,
+    pub value: u64,
+    pub scnum: u64,
+    pub smtype: u64,
+    pub smclas: u64,
+    pub ifile: u64,
+    pub parm: u64,
+}
+
+#[repr(C)]
+pub struct Sheet {
+    pub number: u64,
+    pub item: u64,
+    pub text: u64,
+    pub data: u64,
+    pub count: u64,
+}
+
+#[repr(C)]
+pub struct Call {
+    pub number: u64,
+    pub item: u64,
+    pub has_entry: u64,
+    pub entry: u64,
+    pub has_toc: u64,
+    pub toc: u64,
+}
+
+extern "C" {
+    fn xcoff_open(file: *const u8, length: usize) -> Open;
+    fn xcoff_section(file: *const u8, length: usize, n: u64) -> Section;
+    fn xcoff_section_name(file: *const u8, length: usize, n: u64) -> Range;
+    fn xcoff_symbol(file: *const u8, length: usize, i: u64) -> Symbol;
+    fn xcoff_symbol_name(file: *const u8, length: usize, i: u64) -> Range;
+    fn xcoff_walk(file: *const u8, length: usize) -> Walk;
+    fn xcoff_csect(file: *const u8, length: usize, i: u64) -> Csect;
+    fn xcoff_module(file: *const u8, length: usize) -> Module;
+    fn xcoff_loader_symbol(file: *const u8, length: usize, i: u64) -> LoaderSymbol;
+    fn xcoff_loader_symbol_name(file: *const u8, length: usize, i: u64) -> Range;
+    fn xcoff_import_path(file: *const u8, length: usize, n: u64) -> Range;
+    fn xcoff_import_base(file: *const u8, length: usize, n: u64) -> Range;
+    fn xcoff_import_member(file: *const u8, length: usize, n: u64) -> Range;
+    fn xcoff_sheet_head(sheet: *const u8, length: usize) -> Sheet;
+    fn xcoff_read_sheet(sheet: *const u8, length: usize, list: *mut u64, places: usize) -> Sheet;
+    fn xcoff_write_sheet(text: u64, data: u64, list: *const u64, places: usize, sheet: *mut u8, length: usize) -> Cause;
+    fn xcoff_build(
+        file: *const u8,
+        length: usize,
+        text_address: u64,
+        data_address: u64,
+        list: *const u64,
+        places: usize,
+        text: *mut u8,
+        text_length: usize,
+        data: *mut u8,
+        data_length: usize,
+    ) -> Call;
+    fn xcoff_move(
+        file: *const u8,
+        length: usize,
+        from_text: u64,
+        from_data: u64,
+        from_list: *const u64,
+        from_places: usize,
+        to_text: u64,
+        to_data: u64,
+        to_list: *const u64,
+        to_places: usize,
+        text: *mut u8,
+        text_length: usize,
+        data: *mut u8,
+        data_length: usize,
+    ) -> Call;
+    fn xcoff_replay(
+        file: *const u8,
+        length: usize,
+        script: *const u64,
+        numbers: usize,
+        text: *mut u8,
+        text_length: usize,
+        data: *mut u8,
+        data_length: usize,
+    );
+}
+
+pub fn open(file: &[u8]) -> Open {
+    unsafe { xcoff_open(file.as_ptr(), file.len()) }
+}
+
+pub fn section(file: &[u8], n: u64) -> Section {
+    unsafe { xcoff_section(file.as_ptr(), file.len(), n) }
+}
+
+pub fn section_name(file: &[u8], n: u64) -> Range {
+    unsafe { xcoff_section_name(file.as_ptr(), file.len(), n) }
+}
+
+pub fn symbol(file: &[u8], i: u64) -> Symbol {
+    unsafe { xcoff_symbol(file.as_ptr(), file.len(), i) }
+}
+
+pub fn symbol_name(file: &[u8], i: u64) -> Range {
+    unsafe { xcoff_symbol_name(file.as_ptr(), file.len(), i) }
+}
+
+pub fn walk(file: &[u8]) -> Walk {
+    unsafe { xcoff_walk(file.as_ptr(), file.len()) }
+}
+
+pub fn csect(file: &[u8], i: u64) -> Csect {
+    unsafe { xcoff_csect(file.as_ptr(), file.len(), i) }
+}
+
+pub fn module(file: &[u8]) -> Module {
+    unsafe { xcoff_module(file.as_ptr(), file.len()) }
+}
+
+pub fn loader_symbol(file: &[u8], i: u64) -> LoaderSymbol {
+    unsafe { xcoff_loader_symbol(file.as_ptr(), file.len(), i) }
+}
+
+pub fn loader_symbol_name(file: &[u8], i: u64) -> Range {
+    unsafe { xcoff_loader_symbol_name(file.as_ptr(), file.len(), i) }
+}
+
+pub fn import_path(file: &[u8], n: u64) -> Range {
+    unsafe { xcoff_import_path(file.as_ptr(), file.len(), n) }
+}
+
+pub fn import_base(file: &[u8], n: u64) -> Range {
+    unsafe { xcoff_import_base(file.as_ptr(), file.len(), n) }
+}
+
+pub fn import_member(file: &[u8], n: u64) -> Range {
+    unsafe { xcoff_import_member(file.as_ptr(), file.len(), n) }
+}
+
+pub fn sheet_head(sheet: &[u8]) -> Sheet {
+    unsafe { xcoff_sheet_head(sheet.as_ptr(), sheet.len()) }
+}
+
+pub fn read_sheet(sheet: &[u8], list: &mut [u64]) -> Sheet {
+    unsafe { xcoff_read_sheet(sheet.as_ptr(), sheet.len(), list.as_mut_ptr(), list.len()) }
+}
+
+pub fn write_sheet(text: u64, data: u64, list: &[u64], sheet: &mut [u8]) -> Cause {
+    unsafe { xcoff_write_sheet(text, data, list.as_ptr(), list.len(), sheet.as_mut_ptr(), sheet.len()) }
+}
+
+pub fn build(file: &[u8], at: (u64, u64), list: &[u64], text: &mut [u8], data: &mut [u8]) -> Call {
+    unsafe {
+        xcoff_build(
+            file.as_ptr(),
+            file.len(),
+            at.0,
+            at.1,
+            list.as_ptr(),
+            list.len(),
+            text.as_mut_ptr(),
+            text.len(),
+            data.as_mut_ptr(),
+            data.len(),
+        )
+    }
+}
+
+pub fn move_images(
+    file: &[u8],
+    from: (u64, u64),
+    from_list: &[u64],
+    to: (u64, u64),
+    to_list: &[u64],
+    text: &mut [u8],
+    data: &mut [u8],
+) -> Call {
+    unsafe {
+        xcoff_move(
+            file.as_ptr(),
+            file.len(),
+            from.0,
+            from.1,
+            from_list.as_ptr(),
+            from_list.len(),
+            to.0,
+            to.1,
+            to_list.as_ptr(),
+            to_list.len(),
+            text.as_mut_ptr(),
+            text.len(),
+            data.as_mut_ptr(),
+            data.len(),
+        )
+    }
+}
+
+pub fn replay(file: &[u8], script: &[u64], text: &mut [u8], data: &mut [u8]) {
+    unsafe {
+        xcoff_replay(
+            file.as_ptr(),
+            file.len(),
+            script.as_ptr(),
+            script.len(),
+            text.as_mut_ptr(),
+            text.len(),
+            data.as_mut_ptr(),
+            data.len(),
+        )
+    }
+}

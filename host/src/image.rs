@@ -1,0 +1,105 @@
+//! Plans, their sheets, and images built and moved.
+
+use crate::{accepted, ffi, Refusal};
+
+/// A plan: the text address, the data address, and an address for each loader symbol. The places of symbols that are
+/// not imported, and of deferred imports, are ignored.
+#[derive(Clone, Debug, PartialEq, Eq)]
+pub struct Plan {
+    pub text: u64,
+    pub data: u64,
+    pub list: Vec<u64>,
+}
+
+/// The entry point's and the TOC's addresses in the plan that a call reached, where the module has them.
+#[derive(Clone, Copy, Debug, PartialEq, Eq)]
+pub struct Reached {
+    pub entry: Option<u64>,
+    pub toc: Option<u64>,
+}
+
+/// A call of a list that [`replay`] runs.
+#[derive(Clone, Debug, PartialEq, Eq)]
+pub enum Call {
+    Build(Plan),
+    Move(Plan, Plan),
+}
+
+/// Builds the images of the module in `file` for a plan. A refusal changes no byte of the buffers.
+pub fn build_images(file: &[u8], plan: &Plan, text: &mut [u8], data: &mut [u8]) -> Result<Reached, Refusal> {
+    reached(ffi::build(file, (plan.text, plan.data), &plan.list, text, data))
+}
+
+/// Moves images from one plan to another, taking the buffers as they are. A refusal changes no byte of them.
+pub fn move_images(file: &[u8], from: &Plan, to: &Plan, text: &mut [u8], data: &mut [u8]) -> Result<Reached, Refusal> {
+    reached(ffi::move_images(
+        file,
+        (from.text, from.data),
+        &from.list,
+        (to.text, to.data),
+        &to.list,
+        text,
+        data,
+    ))
+}
+
+/// Runs a list of calls on the two buffers. A call that is refused changes nothing and does not end the list.
+pub fn replay(file: &[u8], calls: &[Call], text: &mut [u8], data: &mut [u8]) {
+    let mut script = Vec::new();
+    for call in calls {
+        match call {
+            Call::Build(p) => {
+                script.push(0);
+                numbers(p, &mut script);
+            }
+            Call::Move(p, q) => {
+                script.push(1);
+                numbers(p, &mut script);
+                numbers(q, &mut script);
+            }
+        }
+    }
+    ffi::replay(file, &script, text, data)
+}
+
+/// Reads a plan sheet's two addresses, and its list into exactly as many places. A refusal leaves the list as it was.
+pub fn read_sheet_into(sheet: &[u8], list: &mut [u64]) -> Result<(u64, u64), Refusal> {
+    let read = ffi::read_sheet(sheet, list);
+    accepted(read.number, read.item)?;
+    Ok((read.text, read.data))
+}
+
+/// Writes the sheet of a plan into a buffer of exactly its length. A refusal leaves the buffer as it was.
+pub fn write_sheet_into(text: u64, data: u64, list: &[u64], sheet: &mut [u8]) -> Result<(), Refusal> {
+    let written = ffi::write_sheet(text, data, list, sheet);
+    accepted(written.number, written.item)
+}
+
+/// Reads a plan sheet.
+pub fn read_sheet(sheet: &[u8]) -> Result<Plan, Refusal> {
+    let head = ffi::sheet_head(sheet);
+    accepted(head.number, head.item)?;
+    let mut list = vec![0; head.count as usize];
+    let (text, data) = read_sheet_into(sheet, &mut list)?;
+    Ok(Plan { text, data, list })
+}
+
+/// The sheet of a plan.
+pub fn write_sheet(plan: &Plan) -> Result<Vec<u8>, Refusal> {
+    let mut sheet = vec![0; 20 + 8 * plan.list.len()];
+    write_sheet_into(plan.text, plan.data, &plan.list, &mut sheet)?;
+    Ok(sheet)
+}
+
+fn numbers(p: &Plan, script: &mut Vec<u64>) {
+    script.extend([p.text, p.data, p.list.len() as u64]);
+    script.extend(&p.list);
+}
+
+fn reached(call: ffi::Call) -> Result<Reached, Refusal> {
+    accepted(call.number, call.item)?;
+    Ok(Reached {
+        entry: (call.has_entry == 1).then_some(call.entry),
+        toc: (call.has_toc == 1).then_some(call.toc),
+    })
+}

@@ -1,0 +1,132 @@
+//! Why something is refused: the numbers of the rules, in words.
+
+use std::fmt;
+
+/// A rule's number and the item it names, 0 where it names none.
+#[derive(Clone, Copy, Debug, PartialEq, Eq)]
+pub struct Refusal {
+    pub number: u64,
+    pub item: u64,
+}
+
+impl Refusal {
+    /// The number's name, such as `LIMIT`.
+    pub fn name(&self) -> &'static str {
+        match self.number {
+            1 => "SHORT",
+            2 => "MAGIC",
+            3 => "LIMIT",
+            4 => "KIND",
+            5 => "BOUNDS",
+            6 => "ADDRESS",
+            7 => "STRINGS",
+            8 => "INDEX",
+            9 => "AUX",
+            10 => "NAME",
+            11 => "SECTION",
+            12 => "CSECT",
+            13 => "MODULE",
+            14 => "THREAD",
+            15 => "LOADER",
+            16 => "LSYM",
+            17 => "LREL",
+            18 => "OVERLAP",
+            19 => "PLAN",
+            20 => "ROOM",
+            21 => "SHEET",
+            _ => "UNKNOWN",
+        }
+    }
+
+    /// What it means.
+    pub fn meaning(&self) -> String {
+        let i = self.item;
+        match self.number {
+            1 => "the file or its header area ends early".into(),
+            2 => "the file starts with neither 01DF nor 01F7".into(),
+            3 => limit(i).into(),
+            4 => format!("the flags of section {i} are not allowed"),
+            5 if i == 0 => "the symbol table or string table passes the file's end".into(),
+            5 => format!("the raw data of section {i} passes the file's end"),
+            6 => format!("the addresses of section {i} differ or pass the address space, or it is a bss below the end of data"),
+            7 => "the string table has length 1, 2 or 3".into(),
+            8 => format!("there is no number {i} of what was asked for"),
+            9 => format!("the auxiliary entries of symbol {i} pass the table's end"),
+            10 => format!("the name of symbol {i} lies nowhere"),
+            11 => format!("the section of symbol {i} is not there"),
+            12 => format!("symbol {i} has no valid csect entry"),
+            13 => format!("the file is not a loadable module: {}", module(i)),
+            14 => format!("thread-local storage: section or relocation entry {i}"),
+            15 => format!("the loader section is bad: {}", loader(i)),
+            16 => format!("loader symbol {i} is bad"),
+            17 => format!("relocation entry {i} is bad"),
+            18 => format!("the field of relocation entry {i} meets an earlier one that is not the same"),
+            19 => plan(i),
+            20 => format!("the {} is not exactly as long as needed", room(i)),
+            21 => "the plan sheet is malformed".into(),
+            _ => "no such number".into(),
+        }
+    }
+}
+
+impl fmt::Display for Refusal {
+    fn fmt(&self, f: &mut fmt::Formatter<'_>) -> fmt::Result {
+        write!(
+            f,
+            "refused {} {}: {}, {}",
+            self.number,
+            self.item,
+            self.name(),
+            self.meaning()
+        )
+    }
+}
+
+impl std::error::Error for Refusal {}
+
+fn limit(item: u64) -> &'static str {
+    match item {
+        0 => "the file is longer than 16,777,216 bytes",
+        1 => "there are more than 32 sections",
+        2 => "there are more than 4,096 loader symbols or addresses of a sheet",
+        3 => "there are more than 4,096 relocation entries",
+        _ => "the data image is longer than 16,777,216 bytes",
+    }
+}
+
+fn module(item: u64) -> &'static str {
+    match item {
+        0 => "its auxiliary header is too short",
+        1 => "it has not exactly one text, data, bss and loader section each",
+        2 => "its auxiliary header and section headers differ",
+        3 => "its text, data or loader section has no raw data",
+        _ => "its entry or TOC is neither in text nor in data",
+    }
+}
+
+fn loader(item: u64) -> &'static str {
+    match item {
+        0 => "its header is short",
+        1 => "its version is neither 1 nor 2",
+        2 => "its symbols pass the section",
+        3 => "its relocations pass the section",
+        4 => "its import ids pass the section or are too few",
+        _ => "its strings pass the section",
+    }
+}
+
+fn plan(item: u64) -> String {
+    match item {
+        0 => "the plan's text address does not fit".into(),
+        1 => "the plan's data address does not fit".into(),
+        i => format!("the plan's address of loader symbol {i} does not fit"),
+    }
+}
+
+fn room(item: u64) -> &'static str {
+    match item {
+        0 => "lent buffer for the text image or sheet",
+        1 => "lent buffer for the data image",
+        _ => "list of addresses",
+    }
+}

@@ -1,0 +1,129 @@
+//! Modules that GNU ld linked twice, at other addresses: building one for the other's plan gives the other's bytes.
+
+use std::path::PathBuf;
+use xcoff::{build_images, loader_symbol, module, move_images, read_sheet, replay, section, write_sheet, Call, Module, Plan};
+
+struct Linked {
+    file: Vec<u8>,
+    module: Module,
+    plan: Plan,
+    text: Vec<u8>,
+    data: Vec<u8>,
+}
+
+fn raw(file: &[u8], n: u64, length: u64) -> Vec<u8> {
+    let s = section(file, n).unwrap();
+    let mut bytes = if s.raw { file[s.scnptr as usize..(s.scnptr + s.size) as usize].to_vec() } else { Vec::new() };
+    bytes.resize(length as usize, 0);
+    bytes
+}
+
+/// What ld wrote: the images, and the plan that they are for, every import at its recorded value.
+fn linked(name: &str) -> Linked {
+    let path = PathBuf::from(env!("CARGO_MANIFEST_DIR")).join("../tests/pairs").join(name);
+    let file = std::fs::read(&path).unwrap_or_else(|e| panic!("{}: {e}", path.display()));
+    let m = module(&file).unwrap_or_else(|r| panic!("{name}: {r}"));
+    let list = (3..m.symbols + 3).map(|i| loader_symbol(&file, i).unwrap().value).collect();
+    let plan = Plan {
+        text: m.text.address,
+        data: m.data.address,
+        list,
+    };
+    let text = raw(&file, m.text.number, m.text.size);
+    let data = raw(&file, m.data.number, m.image);
+    Linked {
+        file,
+        module: m,
+        plan,
+        text,
+        data,
+    }
+}
+
+fn names() -> Vec<String> {
+    let folder = PathBuf::from(env!("CARGO_MANIFEST_DIR")).join("../tests/pairs");
+    let mut names: Vec<String> = std::fs::read_dir(&folder)
+        .unwrap()
+        .map(|e| e.unwrap().file_name().into_string().unwrap())
+        .filter(|n| n.contains(".a-"))
+        .collect();
+    names.sort();
+    assert!(names.len() >= 30, "{} pairs", names.len());
+    names
+}
+
+/// ld keeps no loader entries for the read-only text of this pair: its data agrees, its text does not.
+fn has_fixed_text(name: &str) -> bool {
+    name.starts_with("rotext")
+}
+
+#[test]
+fn building_for_the_others_plan_gives_its_bytes() {
+    for name in names() {
+        let a = linked(&name);
+        let b = linked(&name.replace(".a-", ".b-"));
+        let mut text = vec![0xAA; a.text.len()];
+        let mut data = vec![0x55; a.data.len()];
+        let r = build_images(&a.file, &b.plan, &mut text, &mut data).unwrap();
+        assert_eq!(data, b.data, "{name}: data");
+        if !has_fixed_text(&name) {
+            assert_eq!(text, b.text, "{name}: text");
+        }
+        assert_eq!(r.entry, b.module.entry.map(|e| e.address), "{name}: entry");
+        assert_eq!(r.toc, b.module.toc.map(|t| t.address), "{name}: TOC");
+
+        let back = move_images(&a.file, &b.plan, &a.plan, &mut text, &mut data).unwrap();
+        assert_eq!(text, a.text, "{name}: text moved back");
+        assert_eq!(data, a.data, "{name}: data moved back");
+        assert_eq!(back.entry, a.module.entry.map(|e| e.address), "{name}: entry moved back");
+        assert_eq!(back.toc, a.module.toc.map(|t| t.address), "{name}: TOC moved back");
+    }
+}
+
+#[test]
+fn a_list_of_calls_reaches_the_last_plan() {
+    for name in names() {
+        let a = linked(&name);
+        let b = linked(&name.replace(".a-", ".b-"));
+        let mut short = a.plan.clone();
+        short.list.push(0);
+        let calls = [
+            Call::Move(a.plan.clone(), b.plan.clone()),
+            Call::Build(a.plan.clone()),
+            Call::Build(short),
+            Call::Move(a.plan.clone(), b.plan.clone()),
+            Call::Move(b.plan.clone(), b.plan.clone()),
+        ];
+        let mut text = vec![0x11; a.text.len()];
+        let mut data = vec![0x22; a.data.len()];
+        replay(&a.file, &calls, &mut text, &mut data);
+        assert_eq!(data, b.data, "{name}: data");
+        if !has_fixed_text(&name) {
+            assert_eq!(text, b.text, "{name}: text");
+        }
+    }
+}
+
+#[test]
+fn a_refused_call_changes_no_byte() {
+    for name in names() {
+        let a = linked(&name);
+        let b = linked(&name.replace(".a-", ".b-"));
+        let mut text = a.text.clone();
+        let mut data = vec![0; a.data.len() + 1];
+        let r = move_images(&a.file, &a.plan, &b.plan, &mut text, &mut data).unwrap_err();
+        assert_eq!((r.number, r.item), (20, 1), "{name}");
+        assert_eq!(text, a.text, "{name}: text");
+        assert!(data.iter().all(|&x| x == 0), "{name}: data");
+    }
+}
+
+#[test]
+fn a_sheet_reads_back_as_its_plan() {
+    for name in names() {
+        let a = linked(&name);
+        let sheet = write_sheet(&a.plan).unwrap();
+        assert_eq!(read_sheet(&sheet).unwrap(), a.plan, "{name}");
+        assert_eq!(read_sheet(&sheet[..sheet.len() - 1]).unwrap_err().number, 21, "{name}");
+    }
+}

@@ -1,0 +1,258 @@
+/*
+ * XCOFF files read by a proved library (target/staticlib/libxcoff_c.a).
+ *
+ * Every function takes the whole file as a pointer and a length, judges it from the start and keeps nothing between
+ * calls: nothing has to be opened, closed or checked beforehand, and any bytes are allowed. A file of length 0 may have
+ * a null pointer. The library allocates nothing, has no global state and may be called from several threads at once.
+ * A call takes less than 512 KiB of stack.
+ *
+ * What you must see to: the pointer is good for `length` bytes, and nobody writes to them during the call. Memory that
+ * is lent for writing must not overlap the file or other lent memory. The proof takes this for granted; it is the one
+ * thing that it cannot check. The functions below only read: no byte of the file is changed.
+ *
+ * Every answer starts with `number` and `item`. Number 0: accepted. Otherwise the call is refused, the number says why,
+ * the item what it is about, and every other field is 0.
+ *
+ *   number       why                                                       item
+ *    1 SHORT     file or header area ends early                            0
+ *    2 MAGIC     not 01DF (32 bits) or 01F7 (64 bits)                      0
+ *    3 LIMIT     above a limit: 16,777,216 bytes of file; 32 sections;     0 file, 1 sections, 2 loader symbols,
+ *                4,096 loader symbols; 4,096 relocation entries;           3 relocation entries, 4 data image
+ *                16,777,216 bytes of data image
+ *    4 KIND      section flags not allowed                                 section
+ *    5 BOUNDS    raw data, symbol or string table past the file's end      section, or 0
+ *    6 ADDRESS   a section's addresses differ or pass the address space;   section
+ *                a module's bss below the end of its data
+ *    7 STRINGS   string table length 1 to 3                                0
+ *    8 INDEX     no such section, symbol, loader symbol or import id       the one asked for
+ *    9 AUX       a symbol's auxiliary entries pass the table's end         index
+ *   10 NAME      bad name offset                                           index
+ *   11 SECTION   the symbol's section number names no section              index
+ *   12 CSECT     no valid csect entry                                      index
+ *   13 MODULE    not loadable                                              0 short auxiliary header; 1 not one text,
+ *                                                                          data, bss, loader each; 2 auxiliary header
+ *                                                                          and section headers differ; 3 no raw data;
+ *                                                                          4 section of entry or TOC
+ *   14 THREAD    tdata or tbss section; relocation by symbol -1 or -2      section, or relocation entry
+ *   15 LOADER    loader header or table bad                                0 short; 1 version; past the section:
+ *                                                                          2 symbols, 3 relocations, 4 import ids,
+ *                                                                          5 strings
+ *   16 LSYM      loader symbol bad                                         its index, from 3
+ *   17 LREL      relocation entry bad                                      entry, from 0
+ *   18 OVERLAP   field meets an earlier one that is not the same           the later entry
+ *   19 PLAN, 20 ROOM, 21 SHEET are for plans and buffers and are not given by the functions below.
+ *
+ * Sections are numbered from 1, symbols from 0, loader symbols from 3 (0, 1 and 2 stand for text, data and bss), import
+ * ids from 0. An index may be any number: INDEX is the answer where there is no such thing.
+ *
+ * Names are not copied: the answer is the offset and the length of the name in the file, without a closing zero. A name
+ * may be empty, and it may hold any byte but zero.
+ */
+#ifndef XCOFF_H
+#define XCOFF_H
+
+#include <stddef.h>
+#include <stdint.h>
+
+#ifdef __cplusplus
+extern "C" {
+#endif
+
+/* The file header. */
+typedef struct xcoff_open_answer {
+    uint64_t number;
+    uint64_t item;
+    uint64_t bits;      /* 32 or 64 */
+    uint64_t sections;
+    uint64_t symbols;   /* entries of the symbol table, auxiliary ones included */
+    uint64_t opthdr;    /* bytes of the auxiliary header */
+    uint64_t flags;
+} xcoff_open_answer;
+
+/* A section header. */
+typedef struct xcoff_section_answer {
+    uint64_t number;
+    uint64_t item;
+    uint64_t paddr;     /* addresses, of the card's memory */
+    uint64_t vaddr;
+    uint64_t size;
+    uint64_t scnptr;    /* offset of the raw data in the file */
+    uint64_t flag;      /* 8 pad, 10 dwarf, 20 text, 40 data, 80 bss, 100 except, 200 info, 400 tdata, 800 tbss,
+                           1000 loader, 2000 debug, 4000 typchk, 8000 ovrflo (hex); FFFF deleted */
+    uint64_t raw;       /* 1: there is raw data, all of it inside the file */
+} xcoff_section_answer;
+
+/* A name or string: file + offset, length bytes, all of them inside the file. */
+typedef struct xcoff_name_answer {
+    uint64_t number;
+    uint64_t item;
+    uint64_t offset;
+    uint64_t length;
+} xcoff_name_answer;
+
+/* An entry of the symbol table. */
+typedef struct xcoff_symbol_answer {
+    uint64_t number;
+    uint64_t item;
+    uint64_t value;
+    int64_t scnum;      /* section; 0 undefined, -1 absolute, -2 debugging */
+    uint64_t type;
+    uint64_t sclass;    /* storage class */
+    uint64_t numaux;    /* auxiliary entries that follow */
+} xcoff_symbol_answer;
+
+/* A refusal inside an answer; number 0: none. */
+typedef struct xcoff_refusal {
+    uint64_t number;
+    uint64_t item;
+} xcoff_refusal;
+
+/* A walk over the symbol table. */
+typedef struct xcoff_walk_answer {
+    uint64_t number;
+    uint64_t item;
+    uint64_t visited;       /* symbols that were read */
+    uint64_t end;           /* index where the walk ended */
+    xcoff_refusal cause;    /* why the symbol there is refused; 0 at the table's end */
+} xcoff_walk_answer;
+
+/* The csect entry of a symbol. */
+typedef struct xcoff_csect_answer {
+    uint64_t number;
+    uint64_t item;
+    uint64_t type;      /* 0 ER, 1 SD, 2 LD, 3 CM */
+    uint64_t align;     /* log 2 of the alignment */
+    uint64_t smclas;    /* storage mapping class */
+    uint64_t length;    /* bytes; of an LD the index of its csect */
+} xcoff_csect_answer;
+
+typedef struct xcoff_part {
+    uint64_t number;    /* of the section, from 1 */
+    uint64_t address;
+    uint64_t size;
+} xcoff_part;
+
+typedef struct xcoff_anchor {
+    uint64_t section;   /* 0: there is none, and the address means nothing */
+    uint64_t address;
+} xcoff_anchor;
+
+/* A loadable module. */
+typedef struct xcoff_module_answer {
+    uint64_t number;
+    uint64_t item;
+    uint64_t bits;          /* 32 or 64 */
+    xcoff_part text;
+    xcoff_part data;
+    xcoff_part bss;
+    uint64_t loader;        /* number of the loader section */
+    uint64_t image;         /* bytes of the data image: data, zeros up to bss, bss */
+    uint64_t symbols;       /* loader symbols, with indexes 3 to symbols + 2 */
+    uint64_t relocations;
+    uint64_t ids;           /* import ids */
+    xcoff_anchor entry;
+    xcoff_anchor toc;
+} xcoff_module_answer;
+
+/* A loader symbol. */
+typedef struct xcoff_loader_symbol_answer {
+    uint64_t number;
+    uint64_t item;
+    uint64_t value;
+    uint64_t scnum;     /* section; 0 for an import */
+    uint64_t smtype;    /* bit 40 hex: imported */
+    uint64_t smclas;    /* storage mapping class */
+    uint64_t ifile;     /* import id; 0 for a deferred import */
+    uint64_t parm;
+} xcoff_loader_symbol_answer;
+
+/* Opens a file: its headers, sections and symbol table are judged. */
+xcoff_open_answer xcoff_open(const uint8_t *file, size_t length);
+
+/* Section n, and its name. */
+xcoff_section_answer xcoff_section(const uint8_t *file, size_t length, uint64_t n);
+xcoff_name_answer xcoff_section_name(const uint8_t *file, size_t length, uint64_t n);
+
+/* The symbol table entry i, and its name. The entry after it is at i + 1 + numaux. */
+xcoff_symbol_answer xcoff_symbol(const uint8_t *file, size_t length, uint64_t i);
+xcoff_name_answer xcoff_symbol_name(const uint8_t *file, size_t length, uint64_t i);
+
+/* Reads every symbol in turn, up to the table's end or the first that is refused. */
+xcoff_walk_answer xcoff_walk(const uint8_t *file, size_t length);
+
+/* The csect entry of symbol i. */
+xcoff_csect_answer xcoff_csect(const uint8_t *file, size_t length, uint64_t i);
+
+/* Judges a file as a loadable module, down to its last relocation entry. */
+xcoff_module_answer xcoff_module(const uint8_t *file, size_t length);
+
+/* Loader symbol i of a loadable module, and its name. Each call judges the whole module. */
+xcoff_loader_symbol_answer xcoff_loader_symbol(const uint8_t *file, size_t length, uint64_t i);
+xcoff_name_answer xcoff_loader_symbol_name(const uint8_t *file, size_t length, uint64_t i);
+
+/* The path, base name and archive member of import id n. */
+xcoff_name_answer xcoff_import_path(const uint8_t *file, size_t length, uint64_t n);
+xcoff_name_answer xcoff_import_base(const uint8_t *file, size_t length, uint64_t n);
+xcoff_name_answer xcoff_import_member(const uint8_t *file, size_t length, uint64_t n);
+
+/* A plan sheet's text and data addresses, and how many addresses its list has. */
+typedef struct xcoff_sheet_answer {
+    uint64_t number;
+    uint64_t item;
+    uint64_t text;
+    uint64_t data;
+    uint64_t count;
+} xcoff_sheet_answer;
+
+typedef struct xcoff_verdict {
+    uint64_t number;
+    uint64_t item;
+} xcoff_verdict;
+
+/* The entry and TOC addresses in the plan that a call reached; has_entry and has_toc are 1 where there is one. */
+typedef struct xcoff_call_answer {
+    uint64_t number;
+    uint64_t item;
+    uint64_t has_entry;
+    uint64_t entry;
+    uint64_t has_toc;
+    uint64_t toc;
+} xcoff_call_answer;
+
+/* What a sheet says of itself: how many places its list needs. */
+xcoff_sheet_answer xcoff_sheet_head(const uint8_t *sheet, size_t length);
+
+/* Reads a sheet into a list of exactly as many places as it has addresses; a refusal leaves the list as it was. */
+xcoff_sheet_answer xcoff_read_sheet(const uint8_t *sheet, size_t length, uint64_t *list, size_t places);
+
+/* Writes the sheet of a plan into a buffer of exactly 20 + 8 * places bytes; a refusal leaves the buffer as it was. */
+xcoff_verdict xcoff_write_sheet(uint64_t text, uint64_t data, const uint64_t *list, size_t places, uint8_t *sheet, size_t length);
+
+/*
+ * A plan is a text address, a data address and a list with a place for each loader symbol (xcoff_module: symbols). The
+ * text buffer has exactly text.size bytes, the data buffer image_length. A refusal leaves both buffers as they were.
+ *
+ * xcoff_build writes the images for a plan. xcoff_move moves images from one plan to another and takes the buffers as
+ * they are: moving images twice, or from a plan that they are not for, makes wrong images without a refusal.
+ */
+xcoff_call_answer xcoff_build(const uint8_t *file, size_t length, uint64_t text_address, uint64_t data_address,
+                              const uint64_t *list, size_t places, uint8_t *text, size_t text_length, uint8_t *data,
+                              size_t data_length);
+xcoff_call_answer xcoff_move(const uint8_t *file, size_t length, uint64_t from_text, uint64_t from_data,
+                             const uint64_t *from_list, size_t from_places, uint64_t to_text, uint64_t to_data,
+                             const uint64_t *to_list, size_t to_places, uint8_t *text, size_t text_length, uint8_t *data,
+                             size_t data_length);
+
+/*
+ * Runs a list of calls, encoded as numbers: 0 and a plan is a build, any other number and two plans a move; a plan is
+ * its text address, its data address, how many addresses its list has, and those. What is cut short ends the list; a
+ * call that is refused changes nothing and does not end it.
+ */
+void xcoff_replay(const uint8_t *file, size_t length, const uint64_t *script, size_t numbers, uint8_t *text,
+                  size_t text_length, uint8_t *data, size_t data_length);
+
+#ifdef __cplusplus
+}
+#endif
+
+#endif
