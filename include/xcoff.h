@@ -230,7 +230,7 @@ xcoff_verdict xcoff_write_sheet(uint64_t text, uint64_t data, const uint64_t *li
 
 /*
  * A plan is a text address, a data address and a list with a place for each loader symbol (xcoff_module: symbols). The
- * text buffer has exactly text.size bytes, the data buffer image_length. A refusal leaves both buffers as they were.
+ * text buffer has exactly text.size bytes, the data buffer image bytes. A refusal leaves both buffers as they were.
  *
  * xcoff_build writes the images for a plan. xcoff_move moves images from one plan to another and takes the buffers as
  * they are: moving images twice, or from a plan that they are not for, makes wrong images without a refusal.

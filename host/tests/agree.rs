@@ -29,6 +29,14 @@ fn bits(f: xcoff::Format) -> u64 {
     }
 }
 
+/// The section's flag, all ones for a deleted one.
+fn flag(kind: xcoff::Kind) -> u64 {
+    match kind {
+        xcoff::Kind::Deleted => 0xFFFF_FFFF,
+        kind => 8 << kind as u64,
+    }
+}
+
 fn anchor(section: u64, address: u64) -> Option<(u64, u64)> {
     (section != 0).then_some((section, address))
 }
@@ -62,8 +70,9 @@ impl Comparison<'_> {
                 theirs(reference::open(f)).map(|o| (o.bits, o.sections.len() as u64, o.symbols, o.opthdr, o.flags)),
             ),
             Op::Section(n) => self.same(
-                ours(xcoff::section(f, *n)).map(|s| (s.paddr, s.vaddr, s.size, s.scnptr, s.raw)),
-                theirs(reference::section(f, *n)).map(|s| (s.paddr, s.vaddr, s.size, s.scnptr, s.raw.is_some())),
+                ours(xcoff::section(f, *n)).map(|s| (flag(s.kind), s.paddr, s.vaddr, s.size, s.scnptr, s.raw)),
+                theirs(reference::section(f, *n))
+                    .map(|s| (s.flags, s.paddr, s.vaddr, s.size, s.scnptr, s.raw.is_some())),
             ),
             Op::SectionName(n) => self.same(
                 ours(xcoff::section_name(f, *n)).map(<[u8]>::to_vec),

@@ -75,6 +75,46 @@ static void module(void)
     EXPECT(is(xcoff_import_member(file, length, 2), "shr_64.o"));
 }
 
+/* Built at the recorded addresses, moved by 1000 hex, and both at once by a list of calls; then the plan's sheet. */
+static void images(void)
+{
+    static uint8_t text[0xa0], data[0xa0], text2[0xa0], data2[0xa0], sheet[20 + 8 * 9];
+    uint64_t list[9], back[9], script[1 + 12 + 1 + 24];
+    xcoff_call_answer b, m;
+    xcoff_sheet_answer s;
+    size_t i;
+    for (i = 0; i < 9; i++)
+        list[i] = xcoff_loader_symbol(file, length, 3 + i).value;
+    b = xcoff_build(file, length, 0x10000100, 0x200001a0, list, 9, text, sizeof text, data, sizeof data);
+    EXPECT(b.number == 0 && b.has_entry == 1 && b.entry == 0x200001d0 && b.has_toc == 1 && b.toc == 0x200001e0);
+    m = xcoff_move(file, length, 0x10000100, 0x200001a0, list, 9, 0x10001100, 0x200011a0, list, 9, text, sizeof text, data,
+                   sizeof data);
+    EXPECT(m.number == 0 && m.entry == 0x200011d0 && m.toc == 0x200011e0);
+    m = xcoff_move(file, length, 0x10000100, 0x200001a0, list, 9, 0x10001100, 0x200011a0, list, 9, text, sizeof text - 1,
+                   data, sizeof data);
+    EXPECT(refused(m.number, m.item, 20, 0) && m.has_entry == 0);
+
+    script[0] = 0;
+    script[13] = 1;
+    for (i = 0; i < 3; i++) {
+        uint64_t *plan = script + (i == 0 ? 1 : i == 1 ? 14 : 26);
+        plan[0] = 0x10000100 + (i == 2 ? 0x1000 : 0);
+        plan[1] = 0x200001a0 + (i == 2 ? 0x1000 : 0);
+        plan[2] = 9;
+        memcpy(plan + 3, list, sizeof list);
+    }
+    xcoff_replay(file, length, script, sizeof script / sizeof script[0], text2, sizeof text2, data2, sizeof data2);
+    EXPECT(memcmp(text, text2, sizeof text) == 0 && memcmp(data, data2, sizeof data) == 0);
+
+    EXPECT(xcoff_write_sheet(1, 2, list, 9, sheet, sizeof sheet).number == 0);
+    s = xcoff_sheet_head(sheet, sizeof sheet);
+    EXPECT(s.number == 0 && s.text == 1 && s.data == 2 && s.count == 9);
+    s = xcoff_read_sheet(sheet, sizeof sheet, back, 9);
+    EXPECT(s.number == 0 && memcmp(list, back, sizeof list) == 0);
+    s = xcoff_read_sheet(sheet, sizeof sheet, back, 8);
+    EXPECT(refused(s.number, s.item, 20, 2));
+}
+
 static void nothing(void)
 {
     xcoff_open_answer o = xcoff_open(NULL, 0);
@@ -97,6 +137,7 @@ int main(int argc, char **argv)
     headers();
     symbols();
     module();
+    images();
     nothing();
     return failed;
 }
