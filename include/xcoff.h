@@ -6,9 +6,10 @@
  * a null pointer. The library allocates nothing, has no global state and may be called from several threads at once.
  * A call takes less than 512 KiB of stack.
  *
- * What you must see to: the pointer is good for `length` bytes, and nobody writes to them during the call. Memory that
- * is lent for writing must not overlap the file or other lent memory. The proof takes this for granted; it is the one
- * thing that it cannot check. The functions below only read: no byte of the file is changed.
+ * What you must see to: a pointer is good for its length, and nobody else writes there during the call. Memory that is
+ * lent for writing must not overlap the file or other lent memory. The proof takes this for granted; it is the one thing
+ * that it cannot check. No function changes a byte of the file. What a function writes into is not `const`, and its
+ * comment says what it holds afterwards; a refusal leaves it as it was. Lent memory of length 0 may have a null pointer.
  *
  * Every answer starts with `number` and `item`. Number 0: accepted. Otherwise the call is refused, the number says why,
  * the item what it is about, and every other field is 0.
@@ -40,7 +41,9 @@
  *   16 LSYM      loader symbol bad                                         its index, from 3
  *   17 LREL      relocation entry bad                                      entry, from 0
  *   18 OVERLAP   field meets an earlier one that is not the same           the later entry
- *   19 PLAN, 20 ROOM, 21 SHEET are for plans and buffers and are not given by the functions below.
+ *   19 PLAN      an address does not fit                                   0 text, 1 data, or the import's index
+ *   20 ROOM      lent memory not exactly as long as needed                 0 text, sheet or rows; 1 data; 2 list
+ *   21 SHEET     malformed plan sheet                                      0
  *
  * Sections are numbered from 1, symbols from 0, loader symbols from 3 (0, 1 and 2 stand for text, data and bss), import
  * ids from 0. An index may be any number: INDEX is the answer where there is no such thing.
@@ -250,6 +253,78 @@ xcoff_call_answer xcoff_move(const uint8_t *file, size_t length, uint64_t from_t
  */
 void xcoff_replay(const uint8_t *file, size_t length, const uint64_t *script, size_t numbers, uint8_t *text,
                   size_t text_length, uint8_t *data, size_t data_length);
+
+/*
+ * Tables: one call lists all elements, a row of numbers for each, and judges the file once. `numbers` is how many 64-bit
+ * numbers `rows` has room for, and must be exactly the rows' own: ROOM (20), item 0, is the last refusal. The counts are
+ * those of xcoff_walk (visited) and xcoff_module (symbols, relocations, ids). A refusal leaves `rows` as it was; an
+ * accepted call writes every number of it. Where there is no element, numbers is 0 and the pointer may be null.
+ *
+ * The numbers of a row are those that the calls for one element give, in the order of the structs below: an array of
+ * them is lent as (uint64_t *).
+ */
+
+/* A symbol that the walk visits. Its name starts at file + name and ends at the first zero in `room` bytes, or after
+   them; the length is not looked for, since many symbols may share one long string. The csect numbers are 0 where
+   csect is not 0. */
+typedef struct xcoff_symbol_row {
+    uint64_t index;
+    uint64_t value;
+    int64_t scnum;          /* section; 0 undefined, -1 absolute, -2 debugging */
+    uint64_t type;
+    uint64_t sclass;
+    uint64_t numaux;
+    uint64_t name;
+    uint64_t room;
+    uint64_t csect;         /* 0: the symbol has a csect entry; else the number of the refusal, 12 */
+    uint64_t csect_type;    /* 0 ER, 1 SD, 2 LD, 3 CM */
+    uint64_t align;
+    uint64_t smclas;
+    uint64_t length;        /* bytes; of an LD the index of its csect */
+} xcoff_symbol_row;
+
+/* A loader symbol: index from 3, its numbers, and its name as xcoff_loader_symbol_name gives it. */
+typedef struct xcoff_loader_symbol_row {
+    uint64_t index;
+    uint64_t value;
+    uint64_t scnum;
+    uint64_t smtype;
+    uint64_t smclas;
+    uint64_t ifile;
+    uint64_t parm;
+    uint64_t name;          /* file + name, name_length bytes */
+    uint64_t name_length;
+} xcoff_loader_symbol_row;
+
+/* A relocation entry as the file has it, and its field. */
+typedef struct xcoff_relocation_row {
+    uint64_t address;
+    uint64_t symbol;
+    uint64_t type;
+    uint64_t scnum;
+    uint64_t in_text;       /* 1: the field is in the text image, 0: in the data image */
+    uint64_t offset;        /* in that image */
+    uint64_t width;         /* 4 or 8 bytes */
+    uint64_t subtracts;     /* 1: the symbol's displacement is subtracted, 0: added */
+} xcoff_relocation_row;
+
+/* An import id: offsets in the file and lengths, without the closing zeros. */
+typedef struct xcoff_import_row {
+    uint64_t path;
+    uint64_t path_length;
+    uint64_t base;
+    uint64_t base_length;
+    uint64_t member;
+    uint64_t member_length;
+} xcoff_import_row;
+
+/* 13 numbers for each symbol visited: xcoff_symbol_row. The answer is that of xcoff_walk, or ROOM. */
+xcoff_walk_answer xcoff_symbol_table(const uint8_t *file, size_t length, uint64_t *rows, size_t numbers);
+
+/* 9 numbers for each loader symbol, 8 for each relocation entry, 6 for each import id, in the table's order. */
+xcoff_verdict xcoff_loader_symbol_table(const uint8_t *file, size_t length, uint64_t *rows, size_t numbers);
+xcoff_verdict xcoff_relocation_table(const uint8_t *file, size_t length, uint64_t *rows, size_t numbers);
+xcoff_verdict xcoff_import_table(const uint8_t *file, size_t length, uint64_t *rows, size_t numbers);
 
 #ifdef __cplusplus
 }

@@ -115,6 +115,70 @@ static void images(void)
     EXPECT(refused(s.number, s.item, 20, 2));
 }
 
+/* Every row against the calls for one element. */
+static void symbol_rows(void)
+{
+    static xcoff_symbol_row rows[30];
+    uint64_t i;
+    xcoff_walk_answer w = xcoff_symbol_table(file, length, (uint64_t *)rows, 30 * 13 - 1);
+    EXPECT(refused(w.number, w.item, 20, 0) && w.visited == 0 && rows[0].sclass == 0);
+    w = xcoff_symbol_table(file, length, (uint64_t *)rows, 30 * 13);
+    EXPECT(w.number == 0 && w.visited == 30 && w.end == 60 && w.cause.number == 0);
+    for (i = 0; i < 30; i++) {
+        xcoff_symbol_answer y = xcoff_symbol(file, length, rows[i].index);
+        xcoff_csect_answer c = xcoff_csect(file, length, rows[i].index);
+        xcoff_name_answer n = xcoff_symbol_name(file, length, rows[i].index);
+        const uint8_t *zero = memchr(file + rows[i].name, 0, rows[i].room);
+        uint64_t name_length = zero == NULL ? rows[i].room : (uint64_t)(zero - (file + rows[i].name));
+        EXPECT(rows[i].index == (i == 0 ? 0 : rows[i - 1].index + 1 + rows[i - 1].numaux));
+        EXPECT(rows[i].value == y.value && rows[i].scnum == y.scnum && rows[i].type == y.type);
+        EXPECT(rows[i].sclass == y.sclass && rows[i].numaux == y.numaux);
+        EXPECT(rows[i].csect == c.number && rows[i].csect_type == c.type && rows[i].align == c.align);
+        EXPECT(rows[i].smclas == c.smclas && rows[i].length == c.length);
+        EXPECT(n.number == 0 && rows[i].name == n.offset && name_length == n.length);
+    }
+}
+
+static void module_rows(void)
+{
+    static xcoff_loader_symbol_row symbols[9];
+    static xcoff_import_row ids[8];
+    static xcoff_relocation_row entries[64];
+    xcoff_module_answer m = xcoff_module(file, length);
+    xcoff_verdict v;
+    uint64_t i;
+    EXPECT(m.symbols == 9 && m.ids <= 8 && m.relocations <= 64);
+    v = xcoff_loader_symbol_table(file, length, (uint64_t *)symbols, 9 * m.symbols);
+    EXPECT(v.number == 0 && v.item == 0);
+    for (i = 0; i < m.symbols; i++) {
+        xcoff_loader_symbol_answer y = xcoff_loader_symbol(file, length, i + 3);
+        xcoff_name_answer n = xcoff_loader_symbol_name(file, length, i + 3);
+        EXPECT(symbols[i].index == i + 3 && symbols[i].value == y.value && symbols[i].scnum == y.scnum);
+        EXPECT(symbols[i].smtype == y.smtype && symbols[i].smclas == y.smclas && symbols[i].ifile == y.ifile);
+        EXPECT(symbols[i].parm == y.parm && symbols[i].name == n.offset && symbols[i].name_length == n.length);
+    }
+    v = xcoff_import_table(file, length, (uint64_t *)ids, 6 * m.ids);
+    EXPECT(v.number == 0 && v.item == 0);
+    for (i = 0; i < m.ids; i++) {
+        xcoff_name_answer path = xcoff_import_path(file, length, i);
+        xcoff_name_answer base = xcoff_import_base(file, length, i);
+        xcoff_name_answer member = xcoff_import_member(file, length, i);
+        EXPECT(ids[i].path == path.offset && ids[i].path_length == path.length);
+        EXPECT(ids[i].base == base.offset && ids[i].base_length == base.length);
+        EXPECT(ids[i].member == member.offset && ids[i].member_length == member.length);
+    }
+    v = xcoff_relocation_table(file, length, (uint64_t *)entries, 8 * m.relocations + 1);
+    EXPECT(refused(v.number, v.item, 20, 0) && entries[0].width == 0);
+    v = xcoff_relocation_table(file, length, (uint64_t *)entries, 8 * m.relocations);
+    EXPECT(v.number == 0 && v.item == 0);
+    for (i = 0; i < m.relocations; i++) {
+        xcoff_part part = entries[i].in_text ? m.text : m.data;
+        EXPECT(entries[i].scnum == part.number && entries[i].address == part.address + entries[i].offset);
+        EXPECT(entries[i].width == ((entries[i].type >> 8 & 63) == 63 ? 8 : 4));
+        EXPECT(entries[i].subtracts == ((entries[i].type & 255) == 1) && entries[i].symbol < 3 + m.symbols);
+    }
+}
+
 static void nothing(void)
 {
     xcoff_open_answer o = xcoff_open(NULL, 0);
@@ -123,6 +187,8 @@ static void nothing(void)
     EXPECT(refused(o.number, o.item, 1, 0) && o.bits == 0);
     EXPECT(refused(m.number, m.item, 1, 0) && m.toc.address == 0);
     EXPECT(refused(n.number, n.item, 1, 0) && n.length == 0);
+    EXPECT(xcoff_symbol_table(NULL, 0, NULL, 0).number == 1);
+    EXPECT(xcoff_relocation_table(NULL, 0, NULL, 0).number == 1);
 }
 
 int main(int argc, char **argv)
@@ -138,6 +204,8 @@ int main(int argc, char **argv)
     symbols();
     module();
     images();
+    symbol_rows();
+    module_rows();
     nothing();
     return failed;
 }

@@ -300,7 +300,8 @@ pub fn symbol_name<'a>(file: &'a [u8], i: SymbolIndex) -> &'a [u8]
     refusal::part_of(file, a)
 }
 
-fn walk_tables(file: &[u8], t: Tables, ends: u64) -> WalkEnd
+// The walk over the tables of an opened file.
+pub fn walk_tables(file: &[u8], t: Tables, ends: u64) -> WalkEnd
     requires { ⌜ TablesInside (now file) t × ZeroEnd (bytesOf (now file) (t .strings)) ends ⌝ }
     ensures { λ r. ⌜ r ≡ walkIn (now (file .entry)) t ⌝ }
 {

@@ -4,7 +4,7 @@ ghost use mathlib.Core.Path.{_≡_};
 ghost use Rattle.header.specs.Open.{openReport};
 ghost use Rattle.header.specs.Lookup.{sectionReport, sectionNameAt};
 ghost use Rattle.symbol.specs.Symbol.{symbolReport, symbolNameAt};
-ghost use Rattle.symbol.specs.Walk.{walkReport};
+ghost use Rattle.symbol.specs.Walk.{reportOfWalk, walkReport};
 ghost use Rattle.csect.specs.Csect.{csectReport};
 ghost use Rattle.loadable.specs.Loadable.{moduleReport};
 ghost use Rattle.lookup.specs.Symbol.{loaderSymbolReport, loaderNameAt};
@@ -17,6 +17,10 @@ ghost use Rattle.history.specs.Book.{bookImages, bookAfter};
 ghost use Rattle.plan.specs.Relocatable.{relocatableAt};
 ghost use Rattle.image.specs.Report.{reportOfCall};
 ghost use Rattle.replay.specs.Script.{callsOf};
+ghost use Rattle.symbol_table.specs.Table.{symbolTable, symbolsAfter};
+ghost use Rattle.loader_tables.specs.Table.{tableCheck, tableAfter};
+ghost use Rattle.loader_tables.specs.Rows.{loaderSymbols, relocations};
+ghost use Rattle.import_table.specs.Imports.{imports};
 ghost use Rattle.report_image.specs.Report.{cCall, cSheet, cVerdict};
 ghost use Rattle.report.specs.Report.{cOpen, cSection, cRange, cSymbol, cWalk, cCsect, cModule, cLoaderSymbol};
 use format::SectionNumber;
@@ -229,4 +233,40 @@ pub extern "C" fn xcoff_replay(file: &[u8], script: &[u64], text: &mut [u8], dat
     ensures { λ _. ⌜ images (now (text .exit)) (now («data» .exit)) ≡ bookImages (relocatableAt (now (file .entry))) (bookAfter (relocatableAt (now (file .entry))) (callsOf (now (script .entry))) (images (now (text .entry)) (now («data» .entry)))) ⌝ }
 {
     replay::replay(file, script, text, data)
+}
+
+// Lists the symbols that the walk visits: a row of 13 numbers for each.
+#[no_mangle]
+pub extern "C" fn xcoff_symbol_table(file: &[u8], rows: &mut [u64]) -> CWalk
+    ensures answer { λ r. ⌜ r ≡ cWalk (reportOfWalk (symbolTable (now (file .entry)) (length (now (rows .entry))))) ⌝ }
+    ensures rows { λ _. ⌜ now (rows .exit) ≡ symbolsAfter (now (file .entry)) (now (rows .entry)) ⌝ }
+{
+    report::report_walk(symbol_table::symbol_table(file, rows))
+}
+
+// Lists the loader symbols of a module: a row of 9 numbers for each.
+#[no_mangle]
+pub extern "C" fn xcoff_loader_symbol_table(file: &[u8], rows: &mut [u64]) -> CVerdict
+    ensures answer { λ r. ⌜ r ≡ cVerdict (reportOfVerdict (tableCheck loaderSymbols (now (file .entry)) (length (now (rows .entry))))) ⌝ }
+    ensures rows { λ _. ⌜ now (rows .exit) ≡ tableAfter loaderSymbols (now (file .entry)) (now (rows .entry)) ⌝ }
+{
+    report_image::report_verdict(loader_tables::loader_symbol_table(file, rows))
+}
+
+// Lists its relocation entries: a row of 8 numbers for each.
+#[no_mangle]
+pub extern "C" fn xcoff_relocation_table(file: &[u8], rows: &mut [u64]) -> CVerdict
+    ensures answer { λ r. ⌜ r ≡ cVerdict (reportOfVerdict (tableCheck relocations (now (file .entry)) (length (now (rows .entry))))) ⌝ }
+    ensures rows { λ _. ⌜ now (rows .exit) ≡ tableAfter relocations (now (file .entry)) (now (rows .entry)) ⌝ }
+{
+    report_image::report_verdict(loader_tables::relocation_table(file, rows))
+}
+
+// Lists its import ids: a row of 6 numbers for each.
+#[no_mangle]
+pub extern "C" fn xcoff_import_table(file: &[u8], rows: &mut [u64]) -> CVerdict
+    ensures answer { λ r. ⌜ r ≡ cVerdict (reportOfVerdict (tableCheck imports (now (file .entry)) (length (now (rows .entry))))) ⌝ }
+    ensures rows { λ _. ⌜ now (rows .exit) ≡ tableAfter imports (now (file .entry)) (now (rows .entry)) ⌝ }
+{
+    report_image::report_verdict(import_table::import_table(file, rows))
 }

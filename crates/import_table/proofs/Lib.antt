@@ -1,0 +1,3 @@
+-- The laws of the import id table.
+
+pub mod Imports

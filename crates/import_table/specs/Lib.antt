@@ -1,0 +1,2 @@
+-- What the contracts of `import_table` cite.
+pub mod Imports

@@ -1,0 +1,3 @@
+-- What the contracts of `loader_tables` cite.
+pub mod Table
+pub mod Rows

@@ -1,0 +1,3 @@
+-- The laws of rows, for the crates above.
+
+pub mod Laws

@@ -1,0 +1,3 @@
+-- What the contracts of `symbol_table` cite.
+pub mod Row
+pub mod Table

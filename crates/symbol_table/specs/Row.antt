@@ -1,0 +1,35 @@
+-- The row of a symbol: what the look-ups of its index say, number by number.
+use Prim.Native.Nat.{ℕ, _+_, _-_}
+use mathlib.Core.Bool.{cond}
+use mathlib.Core.List.{List, [], _∷_}
+use lib.Dec.{eqb}
+use Rattle.word.specs.Number.{bytesIn}
+use Rattle.format.specs.declared.FileRange.{FileRange}
+use Rattle.format.specs.declared.NameField.{NameField}
+use Rattle.format.specs.declared.NameField.the-variants.{Short, Offset}
+use Rattle.format.specs.declared.SymbolIndex.{SymbolIndex}
+use Rattle.format.specs.Layout.{symbolLayout}
+use Rattle.format.specs.Range.{range}
+use Rattle.header.specs.Open.{openOf}
+use Rattle.symbol.specs.declared.Tables.{Tables}
+use Rattle.symbol.specs.Entry.{tablesOf, entryStart}
+use Rattle.symbol.specs.Symbol.{entryOf, symbolReport}
+use Rattle.csect.specs.Csect.{csectReport}
+use Rattle.report.specs.Report.{cSymbol, cCsect}
+
+-- where a name starts, and how many bytes it may take: the entry's own 8, or all from its offset to the string table's end. It ends at the first zero in them
+unfoldable pub nameSpan : Tables → SymbolIndex → NameField → FileRange
+nameSpan t i Short = range (entryStart t (i .0) + symbolLayout (t .format) .name .offset) (bytesIn (symbolLayout (t .format) .name .width))
+nameSpan t i (Offset o) = cond (eqb o 0) (range 0 0) (range (t .strings .start .0 + o) (t .strings .length - o))
+
+-- of the entry at index i of an accepted file
+unfoldable pub symbolSpan : List ℕ → SymbolIndex → FileRange
+symbolSpan file i = let t = tablesOf (openOf file .summary) in nameSpan t i (entryOf file t i .name)
+
+-- its index, its numbers, its name's start and room; the number of its csect entry's refusal or 0, and that entry's numbers
+unfoldable pub symbolRow : List ℕ → ℕ → List ℕ
+symbolRow file i =
+    let s = cSymbol (symbolReport file (record { 0 = i })) in
+    let name = symbolSpan file (record { 0 = i }) in
+    let c = cCsect (csectReport file (record { 0 = i })) in
+    i ∷ s .value ∷ s .scnum ∷ s .ntype ∷ s .sclass ∷ s .numaux ∷ name .start .0 ∷ name .length ∷ c .number ∷ c .kind ∷ c .align ∷ c .smclas ∷ c .length ∷ []

@@ -1,0 +1,144 @@
+// The symbol table listed whole: the file is opened once, and each symbol that the walk visits gets a row of numbers.
+ghost use mathlib.Core.Path.{_≡_};
+ghost use Prim.Native.Nat.{_<_};
+ghost use lib.ListN.{length};
+ghost use Rattle.format.specs.Range.{bytesOf};
+ghost use Rattle.word.specs.Zero.{ZeroEnd};
+ghost use Rattle.symbol.specs.Entry.{TablesInside};
+ghost use Rattle.symbol.specs.Name.{nameIn};
+ghost use Rattle.symbol.specs.Symbol.{verdictOf, symbolIn};
+ghost use Rattle.symbol.specs.Walk.{walkIn, reportOfWalk};
+ghost use Rattle.symbol_table.specs.Row.{nameSpan, symbolRow};
+ghost use Rattle.symbol_table.specs.Table.{OpenTables, rowsFrom, roomBy, leftBy, symbolTable, symbolsAfter};
+use format::FileOffset;
+use format::FileRange;
+use format::NameField;
+use format::SymbolIndex;
+use refusal::Verdict;
+use symbol::Symbol;
+use symbol::SymbolAnswer;
+use symbol::Tables;
+use symbol::WalkAnswer;
+
+// Where the name of the entry at the index `i` starts, and how many bytes it may take. Its end is not looked for:
+// many symbols may share one long string, and a listing that read it for each would not be linear.
+fn name_span(file: &[u8], t: Tables, i: SymbolIndex, name: NameField) -> FileRange
+    requires { ⌜ TablesInside (now file) t × (i .0 < t .count) × (verdictOf (nameIn (now file) t i name) ≡ Verdict.Accepted) ⌝ }
+    ensures { λ r. ⌜ r ≡ nameSpan t i name ⌝ }
+{
+    match name {
+        NameField::Short => {
+            let f = t.format;
+            let l = format::symbol_layout(f);
+            let place = l.name;
+            let width = place.width;
+            let start = t.start;
+            let base = start.0 + i.0 * format::SYMBOL_LENGTH;
+            FileRange {
+                start: FileOffset(base + place.offset as u64),
+                length: word::bytes_in(width) as u64,
+            }
+        }
+        NameField::Offset(o) => {
+            if o == 0 {
+                return FileRange {
+                    start: FileOffset(0),
+                    length: 0,
+                };
+            }
+            let strings = t.strings;
+            let from = strings.start;
+            FileRange {
+                start: FileOffset(from.0 + o),
+                length: strings.length - o,
+            }
+        }
+    }
+}
+
+// The row of the symbol `s` at the index `i`.
+fn symbol_row(file: &[u8], t: Tables, ends: u64, i: SymbolIndex, s: Symbol) -> [u64; 13]
+    requires { ⌜ OpenTables (now file) t × ZeroEnd (bytesOf (now file) (t .strings)) ends × (symbolIn (now file) t i ≡ SymbolAnswer.Found s) ⌝ }
+    ensures { λ r. ⌜ r ≡ symbolRow (now (file .entry)) (i .0) ⌝ }
+{
+    let f = t.format;
+    let first = t.start;
+    let base = first.0 + i.0 * format::SYMBOL_LENGTH;
+    let field = format::read_name_field(file, f, base as usize);
+    let name = name_span(file, t, i, field);
+    let start = name.start;
+    let y = report::report_symbol(SymbolAnswer::Found(s));
+    let c = report::report_csect(csect::csect_in(file, t, ends, i));
+    [
+        i.0,
+        y.value,
+        y.scnum,
+        y.ntype,
+        y.sclass,
+        y.numaux,
+        start.0,
+        name.length,
+        c.number,
+        c.kind,
+        c.align,
+        c.smclas,
+        c.length,
+    ]
+}
+
+// Writes the rows of the symbols that the walk visits.
+fn write_symbols(file: &[u8], t: Tables, ends: u64, out: &mut [u64])
+    requires { ⌜ OpenTables (now file) t × ZeroEnd (bytesOf (now file) (t .strings)) ends × (length (now out) ≡ length (rowsFrom (now file) t (t .count) 0)) ⌝ }
+    ensures { λ _. ⌜ now (out .exit) ≡ rowsFrom (now (file .entry)) t (t .count) 0 ⌝ }
+{
+    let count = t.count;
+    let mut visited: usize = 0;
+    let mut i: u64 = 0;
+    while i < count {
+        let a = symbol::symbol_in(file, t, ends, SymbolIndex(i));
+        let SymbolAnswer::Found(s) = a else {
+            return;
+        };
+        let row = symbol_row(file, t, ends, SymbolIndex(i), s);
+        rows::write_row(&row, visited * 13, out);
+        visited += 1;
+        i = i + 1 + s.numaux;
+    }
+}
+
+// The walk over the tables of an opened file, ROOM 0, and the rows.
+fn list_symbols(file: &[u8], t: Tables, out: &mut [u64]) -> WalkAnswer
+    requires { ⌜ OpenTables (now file) t ⌝ }
+    ensures answer { λ r. ⌜ r ≡ roomBy (length (now (out .entry))) (WalkAnswer.Ended (walkIn (now (file .entry)) t)) ⌝ }
+    ensures rows { λ r. ⌜ now (out .exit) ≡ leftBy r (rowsFrom (now (file .entry)) t (t .count) 0) (now (out .entry)) ⌝ }
+{
+    let strings = t.strings;
+    let ends = symbol::names_end(file, strings);
+    let w = symbol::walk_tables(file, t, ends);
+    let v = rows::check_room(out.len() as u64, 13 * w.visited);
+    match v {
+        Verdict::Refused(x) => WalkAnswer::Refused(x),
+        Verdict::Accepted => {
+            write_symbols(file, t, ends, out);
+            WalkAnswer::Ended(w)
+        }
+    }
+}
+
+// A row of 13 numbers for each symbol that the walk visits, in its order.
+pub fn symbol_table(file: &[u8], out: &mut [u64]) -> WalkAnswer
+    ensures cause { λ r. ⌜ r ≡ symbolTable (now (file .entry)) (length (now (out .entry))) ⌝ }
+    ensures report { λ r. ⌜ reportOfWalk r ≡ reportOfWalk (symbolTable (now (file .entry)) (length (now (out .entry)))) ⌝ }
+    ensures rows { λ _. ⌜ now (out .exit) ≡ symbolsAfter (now (file .entry)) (now (out .entry)) ⌝ }
+{
+    let o = header::open(file);
+    let v = o.verdict;
+    match v {
+        Verdict::Refused(x) => WalkAnswer::Refused(x),
+        Verdict::Accepted => {
+            let y = o.summary;
+            let t = symbol::tables_of(y);
+            list_symbols(file, t, out)
+        }
+    }
+}
