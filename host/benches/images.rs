@@ -6,23 +6,26 @@ mod made;
 
 use made::{Entry, Module};
 use std::hint::black_box;
-use std::time::{Duration, Instant};
+use std::time::Instant;
 use xcoff::{build_images, module, move_images, Format, Plan};
 
 const ENTRIES: u64 = 4096;
-const RUNS: usize = 100;
+const BUILDS: usize = 200;
+const MOVES: usize = 3000;
 
-/// The median of what is measured.
-fn median(mut run: impl FnMut() -> Duration) -> f64 {
-    let mut times: Vec<Duration> = (0..RUNS).map(|_| run()).collect();
-    times.sort();
-    times[RUNS / 2].as_secs_f64() * 1e6
-}
+/// The fastest of several runs, in microseconds. What is compared runs by turns, so that a busy machine slows all alike.
+struct Fastest(f64);
 
-fn timed<T>(work: impl FnOnce() -> T) -> Duration {
-    let start = Instant::now();
-    black_box(work());
-    start.elapsed()
+impl Fastest {
+    fn new() -> Self {
+        Self(f64::MAX)
+    }
+
+    fn run<T>(&mut self, work: impl FnOnce() -> T) {
+        let start = Instant::now();
+        black_box(work());
+        self.0 = self.0.min(start.elapsed().as_secs_f64() * 1e6);
+    }
 }
 
 fn plan(text: u64, data: u64) -> Plan {
@@ -89,9 +92,13 @@ fn build(format: Format) {
     let p = plan(0x3000_0000, 0x4000_0000);
     let (mut text, mut data) = (vec![1; m.text_size as usize], vec![1; m.data_size as usize]);
     let raw = &file[file.len() - m.data_size as usize..];
-    let judge = median(|| timed(|| module(&file)));
-    let whole = median(|| timed(|| build_images(&file, &p, &mut text, &mut data).unwrap()));
-    let copy = median(|| timed(|| data.copy_from_slice(raw)));
+    let (mut judge, mut whole, mut copy) = (Fastest::new(), Fastest::new(), Fastest::new());
+    for _ in 0..BUILDS {
+        judge.run(|| module(&file));
+        whole.run(|| build_images(&file, &p, &mut text, &mut data).unwrap());
+        copy.run(|| data.copy_from_slice(raw));
+    }
+    let (judge, whole, copy) = (judge.0, whole.0, copy.0);
     println!(
         "{format:?} build of 16 MB: {whole:.0} us, judging {judge:.0} us, copy {copy:.0} us: {:.2} whole, {:.2} without judging",
         whole / copy,
@@ -113,10 +120,14 @@ fn moved(format: Format) {
     let (p, q) = (plan(0x3000_0000, 0x4000_0000), plan(0x3123_0000, 0x5000_0010));
     let (mut text, mut data) = (vec![0; m.text_size as usize], vec![0; m.data_size as usize]);
     let mut same = data.clone();
-    let judge = median(|| timed(|| module(&file)));
-    let whole = median(|| timed(|| move_images(&file, &p, &q, &mut text, &mut data).unwrap()));
     let d = [q.text - p.text, q.data - p.data, q.data - p.data];
-    let plain = median(|| timed(|| apply(&file, format, table, m.data_address, d, &mut same)));
+    let (mut judge, mut whole, mut plain) = (Fastest::new(), Fastest::new(), Fastest::new());
+    for _ in 0..MOVES {
+        judge.run(|| module(&file));
+        whole.run(|| move_images(&file, &p, &q, &mut text, &mut data).unwrap());
+        plain.run(|| apply(&file, format, table, m.data_address, d, &mut same));
+    }
+    let (judge, whole, plain) = (judge.0, whole.0, plain.0);
     println!(
         "{format:?} move of {ENTRIES} entries: {whole:.1} us, judging {judge:.1} us, plain loop {plain:.1} us: {:.2} without judging; same bytes: {}",
         (whole - judge) / plain,

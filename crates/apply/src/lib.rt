@@ -44,7 +44,38 @@ fn import_shift(moving: bool, from: &[u64], to: &[u64], k: u64, value: u64) -> u
     std::num::wrapping_sub_u64(to[place], value)
 }
 
-// A symbol's shift. `d` has those of text, data and bss, symbols 0, 1 and 2.
+// The shift of a loader symbol, by what it follows. `d` has those of text, data and bss.
+fn loader_shift(
+    file: &[u8],
+    l: Loadable,
+    d: [u64; 3],
+    moving: bool,
+    from: &[u64],
+    to: &[u64],
+    symbol: u64,
+) -> u64
+    requires { ⌜ Valid (now file) l × (3 ≤ symbol) × (symbol < 3 + l .tables .nsyms) ⌝ }
+    requires { ⌜ (length (now from) ≡ l .tables .nsyms) × (length (now to) ≡ l .tables .nsyms) ⌝ }
+    ensures { λ r. ⌜ StandsFor r (shiftsBy (now (file .entry)) l d moving (now (from .entry)) (now (to .entry)) symbol) ⌝ }
+{
+    let m = l.layout;
+    let t = l.tables;
+    let format = m.format;
+    let start = t.symbols;
+    let p = m.parts;
+    let text = p.text;
+    let number = text.number;
+    let f = plan::followed_at(file, format, start, number, symbol - 3);
+    match f {
+        Followed::Text => d[0],
+        Followed::Data => d[1],
+        Followed::Import(k, v) => import_shift(moving, from, to, k, v),
+        Followed::Nothing => 0,
+    }
+}
+
+// A symbol's shift. `d` has those of text, data and bss, symbols 0, 1 and 2. By cases and not `d[symbol]`: from a test `symbol < 3` the
+// compiler takes the symbol's last byte alone as the index, and then reads the symbol byte by byte.
 fn shift_of(
     file: &[u8],
     l: Loadable,
@@ -58,15 +89,11 @@ fn shift_of(
     requires { ⌜ (length (now from) ≡ l .tables .nsyms) × (length (now to) ≡ l .tables .nsyms) ⌝ }
     ensures { λ r. ⌜ StandsFor r (shiftsBy (now (file .entry)) l d moving (now (from .entry)) (now (to .entry)) symbol) ⌝ }
 {
-    if symbol < 3 {
-        return d[symbol as usize];
-    }
-    let f = plan::followed_at(file, l, symbol - 3);
-    match f {
-        Followed::Text => d[0],
-        Followed::Data => d[1],
-        Followed::Import(k, v) => import_shift(moving, from, to, k, v),
-        Followed::Nothing => 0,
+    match symbol {
+        0 => d[0],
+        1 => d[1],
+        2 => d[2],
+        _ => loader_shift(file, l, d, moving, from, to, symbol),
     }
 }
 

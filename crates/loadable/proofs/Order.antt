@@ -3,9 +3,12 @@ use mathlib.Core.Path.{_≡_, refl, sym, _∙_, ap, subst}
 use mathlib.Core.Bool.{Bool, true, false}
 use mathlib.Core.List.{List}
 use Prim.Native.Nat.{ℕ, zero, suc, _-_, _≤_, _<_}
+use borrow.Author.Tests.{ltb-true, ltb-false}
+use lib.Dec.{ltb}
 use native.Mathlib.Decide.{ℕ-discrete}
 use native.Mathlib.Numerals.{add-one}
 use native.Mathlib.Omega.{arith}
+use Rattle.word.proofs.Test.{either}
 use Rattle.format.specs.declared.Format.{Format}
 use Rattle.refusal.specs.declared.Refusal.the-variants.{Overlap}
 use Rattle.refusal.specs.declared.Verdict.{Verdict}
@@ -18,7 +21,7 @@ use Rattle.loader.specs.declared.LoaderTables.{LoaderTables}
 use Rattle.relocation.specs.Relocation.{ownAt, placeAt}
 use Rattle.overlap.specs.Overlap.{meets, First}
 use Rattle.overlap.proofs.Rule.{first-before, first-here}
-use Rattle.loadable.specs.Entries.{entryCheck, FirstRefused}
+use Rattle.loadable.specs.Entries.{entryCheck, FirstRefused, verdictAt}
 
 module _ (check : ℕ → Verdict) where
   -- past checks that do not refuse
@@ -66,11 +69,17 @@ module _ (file : List ℕ) (f : Format) (p : Parts) (t : LoaderTables) {n k x : 
       here = unfold entryCheck in rw (go-on (ownAt file f p t x) (refuseIf (meets (placeAt file f p t) x) (Overlap x)) (own .before x h), first-here (placeAt file f p t) k x over h) refl
 
   -- an entry is refused by itself, and no fields meet before it
-  pub own-first : k ≤ x → k < n → ownAt file f p t k ≡ firstOf (entryCheck file f p t) 0 n
+  own-first : k ≤ x → k < n → ownAt file f p t k ≡ firstOf (entryCheck file f p t) 0 n
   own-first h l = sym (first-is (entryCheck file f p t) n k l (λ i u. fine i (omega arith)) (ap isRefused here ∙ own .here l) ∙ here)
     where
       here : entryCheck file f p t k ≡ ownAt file f p t k
       here = unfold entryCheck in stop (ownAt file f p t k) (refuseIf (meets (placeAt file f p t) k) (Overlap k)) (own .here l)
 
-  pub none-first : k ≤ x → n ≤ k → Accepted ≡ firstOf (entryCheck file f p t) 0 n
+  none-first : k ≤ x → n ≤ k → Accepted ≡ firstOf (entryCheck file f p t) 0 n
   none-first h l = sym (first-none (entryCheck file f p t) n (λ i u. fine i (omega arith)))
+
+  -- no fields meet before the first entry that is refused by itself, if there is one
+  pub rest-first : k ≤ x → verdictAt (ownAt file f p t) n k ≡ firstOf (entryCheck file f p t) 0 n
+  rest-first h =
+      either (λ (v : Verdict). v ≡ firstOf (entryCheck file f p t) 0 n) (ltb k n)
+      (λ e. own-first h (ltb-true k n e)) (λ e. none-first h (ltb-false k n e))

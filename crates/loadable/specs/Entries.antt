@@ -1,12 +1,14 @@
 -- Every relocation entry of a module, in order: THREAD, LREL, OVERLAP.
 use Prim.Native.Nat.{ℕ, _≤_, _<_}
 use mathlib.Core.Path.{_≡_}
-use mathlib.Core.Bool.{true, false}
+use mathlib.Core.Bool.{true, false, cond}
+use lib.Dec.{ltb}
 use mathlib.Core.List.{List}
 use Rattle.format.specs.declared.Format.{Format}
 use Rattle.format.specs.Limit.{fileLimit, loaderSymbolLimit}
 use Rattle.refusal.specs.declared.Refusal.the-variants.{Overlap}
 use Rattle.refusal.specs.declared.Verdict.{Verdict}
+use Rattle.refusal.specs.declared.Verdict.the-variants.{Accepted}
 use Rattle.refusal.specs.Refusal.{isRefused}
 use Rattle.refusal.specs.Order.{_orElse_, refuseIf, firstOf}
 use Rattle.module.specs.declared.Parts.{Parts}
@@ -26,6 +28,10 @@ pub record FirstRefused (check : ℕ → Verdict) (n k : ℕ) : Type 0 where
   pub within : k ≤ n
   pub before : (i : ℕ) → i < k → isRefused (check i) ≡ false
   pub here : k < n → isRefused (check k) ≡ true
+
+-- what check k of n says; there is none from n on
+abbrev pub verdictAt : (ℕ → Verdict) → ℕ → ℕ → Verdict
+verdictAt check n k = cond (ltb k n) (check k) Accepted
 
 -- what the checks before these leave known
 pub record EntriesReady (file : List ℕ) (f : Format) (p : Parts) (t : LoaderTables) : Type 0 where

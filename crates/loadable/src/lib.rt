@@ -4,7 +4,7 @@ ghost use lib.ListN.{length};
 ghost use Rattle.relocation.specs.Relocation.{ownAt};
 ghost use Rattle.module.specs.Module.{moduleAt};
 ghost use Rattle.module.specs.Inside.{ModuleInside};
-ghost use Rattle.loadable.specs.Entries.{entriesCheck, FirstRefused, EntriesReady};
+ghost use Rattle.loadable.specs.Entries.{entriesCheck, FirstRefused, verdictAt, EntriesReady};
 ghost use Rattle.loadable.specs.Loadable.{loadableBy, loadableIn, loadableAt, reportOfModule, moduleReport};
 use format::Format;
 use loader::LoaderAnswer;
@@ -26,21 +26,33 @@ pub enum LoadableAnswer {
     Refused(Refusal),
 }
 
-// The first entry that THREAD or LREL refuses, or how many there are.
-fn first_refused(file: &[u8], f: Format, p: Parts, t: LoaderTables) -> u64
+// The first entry that THREAD or LREL refuses and its refusal, or how many entries there are.
+struct OwnAnswer {
+    first: u64,
+    verdict: Verdict,
+}
+
+fn first_refused(file: &[u8], f: Format, p: Parts, t: LoaderTables) -> OwnAnswer
     requires { ⌜ EntriesReady (now file) f p t ⌝ }
-    ensures { λ r. ⌜ FirstRefused (ownAt (now (file .entry)) f p t) (t .nreloc) r ⌝ }
+    ensures first { λ r. ⌜ FirstRefused (ownAt (now (file .entry)) f p t) (t .nreloc) (r .first) ⌝ }
+    ensures verdict { λ r. ⌜ r .verdict ≡ verdictAt (ownAt (now (file .entry)) f p t) (t .nreloc) (r .first) ⌝ }
 {
     let n = t.nreloc;
     let mut i: u64 = 0;
     while i < n {
         let v = relocation::check_own(file, f, p, t, i);
         if refusal::refuses(v) {
-            return i;
+            return OwnAnswer {
+                first: i,
+                verdict: v,
+            };
         }
         i += 1;
     }
-    n
+    OwnAnswer {
+        first: n,
+        verdict: Verdict::Accepted,
+    }
 }
 
 // The entries in order: an OVERLAP before the first entry that is refused by itself comes before that refusal.
@@ -48,16 +60,13 @@ fn check_entries(file: &[u8], f: Format, p: Parts, t: LoaderTables) -> Verdict
     requires { ⌜ EntriesReady (now file) f p t ⌝ }
     ensures { λ r. ⌜ r ≡ entriesCheck (now (file .entry)) f p t ⌝ }
 {
-    let n = t.nreloc;
-    let k = first_refused(file, f, p, t);
+    let own = first_refused(file, f, p, t);
+    let k = own.first;
     let x = overlap::first_overlap(file, f, p, t, k);
     if x < k {
         return Verdict::Refused(Refusal::Overlap(x));
     }
-    if k < n {
-        return relocation::check_own(file, f, p, t, k);
-    }
-    Verdict::Accepted
+    own.verdict
 }
 
 // The loader section and the relocation entries of a module whose sections are accepted.

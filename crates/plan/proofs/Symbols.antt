@@ -1,7 +1,7 @@
 -- Laws of the tables of a module: its loader symbols and its relocation entries. Assumes nothing.
 use mathlib.Core.Path.{_≡_, refl, sym, _∙_, ap}
 use mathlib.Core.List.{List, [], _∷_}
-use Prim.Native.Nat.{ℕ, zero, suc, _+_, _-_, _/_, _%_, _≤_, _<_}
+use Prim.Native.Nat.{ℕ, zero, suc, _+_, _-_, _*_, _/_, _%_, _≤_, _<_}
 use native.Mathlib.Nat.{add-suc, suc-add, sub-zero}
 use native.Mathlib.Numerals.{add-one}
 use native.Mathlib.Omega.{arith}
@@ -13,10 +13,13 @@ use Rattle.word.specs.declared.Width.{Width}
 use Rattle.word.specs.declared.Width.the-variants.{One, Four}
 use Rattle.word.specs.Number.{bytesIn, field, fieldIn}
 use Rattle.word.proofs.Test.{either}
+use Rattle.format.specs.declared.FileOffset.{FileOffset}
+use Rattle.format.specs.declared.Format.{Format}
+use Rattle.format.specs.declared.SectionNumber.{SectionNumber}
 use Rattle.format.specs.declared.SymbolLayout.{SymbolLayout}
+use Rattle.format.specs.Limit.{fileLimit}
 use Rattle.format.specs.Layout.{symbolLayout, loaderSymbolLength}
 use Rattle.format.proofs.Layouts.{FieldInside, SymbolInside, symbol-inside}
-use Rattle.module.specs.declared.Parts.{Parts}
 use Rattle.loader.specs.declared.LoaderEntry.{LoaderEntry}
 use Rattle.loader.specs.Symbol.{entryStart, entryAt, isImported}
 use Rattle.loadable.specs.declared.Loadable.{Loadable}
@@ -24,7 +27,7 @@ use Rattle.loadable.specs.Valid.{Valid}
 use Rattle.history.specs.declared.Followed.{Followed}
 use Rattle.history.specs.declared.Followed.the-variants as followed
 use Rattle.history.specs.Plan.{followedBy}
-use Rattle.plan.specs.Relocatable.{followedOf, followedAt, symbolsFrom, relocationAt, relocationsFrom, relocatableOf}
+use Rattle.plan.specs.Relocatable.{followedOf, followedIn, followedAt, symbolsFrom, relocationAt, relocationsFrom, relocatableOf}
 
 module _ (file : List ℕ) (l : Loadable) where
   -- a table of n symbols has length n
@@ -70,41 +73,46 @@ module _ (file : List ℕ) (l : Loadable) where
 
 -- ---- a loader symbol read field by field
 
-module _ (file : List ℕ) (l : Loadable) (k : ℕ) where
-  -- a field of its entry's 24 bytes is in the file
-  pub entry-field : Valid file l × (k < l .tables .nsyms) → {o : ℕ} {w : Width} → {a : Field} → a ≡ field o w → o + bytesIn w ≤ loaderSymbolLength
-      → FieldInside a (entryStart (l .tables) k) (length file)
-  entry-field v {o} {w} e h = rw e (omega (arith, v .0 .loader .tables .symbols, v .1))
+-- an entry of a module's table is in the file
+pub symbol-in : (file : List ℕ) (l : Loadable) (k : ℕ) → Valid file l → k < l .tables .nsyms
+    → (l .tables .symbols .0 + k * loaderSymbolLength + loaderSymbolLength ≤ length file) × (length file ≤ fileLimit)
+symbol-in file l k v h = (omega (arith, v .loader .tables .symbols, h), v .entries .small)
 
-  -- so are the fields that a symbol table entry has at the same places
-  pub entry-fields : Valid file l × (k < l .tables .nsyms) → {s : SymbolLayout} → s ≡ symbolLayout (l .layout .format)
-      → SymbolInside s (entryStart (l .tables) k) (length file)
-  entry-fields v e = symbol-inside (l .layout .format) (entryStart (l .tables) k) (length file) e (omega (arith, v .0 .loader .tables .symbols, v .1))
+module _ (file : List ℕ) (f : Format) (start : FileOffset) (text : SectionNumber) (k : ℕ) where
+  module _ (in-file : (start .0 + k * loaderSymbolLength + loaderSymbolLength ≤ length file) × (length file ≤ fileLimit)) where
+    -- a field of its entry's 24 bytes is in the file
+    pub entry-field : {o : ℕ} {w : Width} → {a : Field} → a ≡ field o w → o + bytesIn w ≤ loaderSymbolLength
+        → FieldInside a (start .0 + k * loaderSymbolLength) (length file)
+    entry-field {o} {w} e h = rw e (omega (arith, in-file .0))
+
+    -- so are the fields that a symbol table entry has at the same places
+    pub entry-fields : {s : SymbolLayout} → s ≡ symbolLayout f → SymbolInside s (start .0 + k * loaderSymbolLength) (length file)
+    entry-fields e = symbol-inside f (start .0 + k * loaderSymbolLength) (length file) e (omega (arith, in-file .0))
 
   -- what it follows, by the type t that is read, and then by the file id i or the section number n
-  module _ {a : Field} {t : ℕ} (ea : a ≡ field 14 One) (et : t ≡ fieldIn a (entryStart (l .tables) k) file) where
-    module _ (imported : t / 64 % 2 ≡ 1) {b : Field} {i : ℕ} (eb : b ≡ field 16 Four) (ei : i ≡ fieldIn b (entryStart (l .tables) k) file) where
+  module _ {a : Field} {t : ℕ} (ea : a ≡ field 14 One) (et : t ≡ fieldIn a (start .0 + k * loaderSymbolLength) file) where
+    module _ (imported : t / 64 % 2 ≡ 1) {b : Field} {i : ℕ} (eb : b ≡ field 16 Four) (ei : i ≡ fieldIn b (start .0 + k * loaderSymbolLength) file) where
       -- a deferred import follows nothing
-      pub follows-nothing : i ≡ 0 → followed.Nothing ≡ followedAt file l k
-      unfolding followedAt followedOf entryAt
+      pub follows-nothing : i ≡ 0 → followed.Nothing ≡ followedIn file f start text k
+      unfolding followedIn followedOf entryAt
       follows-nothing z = rw (← rw ea at et, eq-eqb (t / 64 % 2) 1 imported, ← rw eb at ei, eq-eqb i 0 z)
 
       -- any other import follows its own place in the list
-      pub follows-import : (i ≡ 0 → ⊥) → {s : SymbolLayout} {v : ℕ} → s ≡ symbolLayout (l .layout .format) → v ≡ fieldIn (s .value) (entryStart (l .tables) k) file
-          → followed.Import k v ≡ followedAt file l k
-      unfolding followedAt followedOf entryAt
+      pub follows-import : (i ≡ 0 → ⊥) → {s : SymbolLayout} {v : ℕ} → s ≡ symbolLayout f → v ≡ fieldIn (s .value) (start .0 + k * loaderSymbolLength) file
+          → followed.Import k v ≡ followedIn file f start text k
+      unfolding followedIn followedOf entryAt
       follows-import z es ev = rw (← rw ea at et, eq-eqb (t / 64 % 2) 1 imported, ← rw eb at ei, ne-eqb i 0 z, ← rw es at ev)
 
-    module _ (own : t / 64 % 2 ≡ 1 → ⊥) {s : SymbolLayout} {n : ℕ} (es : s ≡ symbolLayout (l .layout .format)) (en : n ≡ fieldIn (s .scnum) (entryStart (l .tables) k) file) where
+    module _ (own : t / 64 % 2 ≡ 1 → ⊥) {s : SymbolLayout} {n : ℕ} (es : s ≡ symbolLayout f) (en : n ≡ fieldIn (s .scnum) (start .0 + k * loaderSymbolLength) file) where
       -- a symbol of the text section follows text
-      pub follows-text : n ≡ l .layout .parts .text .number .0 → followed.Text ≡ followedAt file l k
-      unfolding followedAt followedOf entryAt
-      follows-text z = rw (← rw ea at et, ne-eqb (t / 64 % 2) 1 own, ← rw es at en, eq-eqb n (l .layout .parts .text .number .0) z)
+      pub follows-text : n ≡ text .0 → followed.Text ≡ followedIn file f start text k
+      unfolding followedIn followedOf entryAt
+      follows-text z = rw (← rw ea at et, ne-eqb (t / 64 % 2) 1 own, ← rw es at en, eq-eqb n (text .0) z)
 
       -- a symbol of any other section follows data
-      pub follows-data : (n ≡ l .layout .parts .text .number .0 → ⊥) → followed.Data ≡ followedAt file l k
-      unfolding followedAt followedOf entryAt
-      follows-data z = rw (← rw ea at et, ne-eqb (t / 64 % 2) 1 own, ← rw es at en, ne-eqb n (l .layout .parts .text .number .0) z)
+      pub follows-data : (n ≡ text .0 → ⊥) → followed.Data ≡ followedIn file f start text k
+      unfolding followedIn followedOf entryAt
+      follows-data z = rw (← rw ea at et, ne-eqb (t / 64 % 2) 1 own, ← rw es at en, ne-eqb n (text .0) z)
 
 -- ---- an import has its own place in the list
 
@@ -116,14 +124,14 @@ OwnPlace k followed.Data = Unit {0}
 OwnPlace k followed.Nothing = Unit {0}
 
 -- an import in an entry with place k has that place in the list
-own-place : (p : Parts) (k : ℕ) (e : LoaderEntry) → OwnPlace k (followedOf p k e)
+own-place : (text : SectionNumber) (k : ℕ) (e : LoaderEntry) → OwnPlace k (followedOf text k e)
 unfolding followedOf
-own-place p k e =
+own-place text k e =
     either (OwnPlace k) (isImported (e .smtype))
     (λ _. either (OwnPlace k) (eqb (e .ifile) 0) (λ _. tt) (λ _. refl))
-    (λ _. either (OwnPlace k) (eqb (e .scnum) (p .text .number .0)) (λ _. tt) (λ _. tt))
+    (λ _. either (OwnPlace k) (eqb (e .scnum) (text .0)) (λ _. tt) (λ _. tt))
 
 -- the same of the entry in the file
 pub own-place-at : (file : List ℕ) (l : Loadable) (k : ℕ) → OwnPlace k (followedAt file l k)
-unfolding followedAt
-own-place-at file l k = own-place (l .layout .parts) k (entryAt (l .layout .format) (entryStart (l .tables) k) file)
+unfolding followedIn
+own-place-at file l k = own-place (l .layout .parts .text .number) k (entryAt (l .layout .format) (entryStart (l .tables) k) file)

@@ -1,10 +1,13 @@
 -- The module in a file as builds and moves see it.
-use Prim.Native.Nat.{ℕ, zero, suc, _+_, _-_}
+use Prim.Native.Nat.{ℕ, zero, suc, _+_, _-_, _*_}
 use mathlib.Core.Bool.{cond}
 use mathlib.Core.List.{List, [], _∷_, _++_}
 use lib.Dec.{eqb}
 use lib.ListN.{replicate}
-use Rattle.format.specs.Layout.{addressLimit}
+use Rattle.format.specs.declared.FileOffset.{FileOffset}
+use Rattle.format.specs.declared.Format.{Format}
+use Rattle.format.specs.declared.SectionNumber.{SectionNumber}
+use Rattle.format.specs.Layout.{addressLimit, loaderSymbolLength}
 use Rattle.format.specs.Range.{range, bytesOf}
 use Rattle.refusal.specs.declared.Refusal.{Refusal}
 use Rattle.refusal.specs.declared.Verdict.the-variants as verdict
@@ -12,7 +15,7 @@ use Rattle.module.specs.declared.Anchor.{Anchor}
 use Rattle.module.specs.declared.Module.{Module}
 use Rattle.module.specs.declared.Parts.{Parts}
 use Rattle.loader.specs.declared.LoaderEntry.{LoaderEntry}
-use Rattle.loader.specs.Symbol.{entryStart, entryAt, isImported}
+use Rattle.loader.specs.Symbol.{entryAt, isImported}
 use Rattle.relocation.specs.Relocation.{entryIn, placeAt, subtracts}
 use Rattle.loadable.specs.declared.Loadable.{Loadable}
 use Rattle.loadable.specs.declared.LoadableAnswer.{LoadableAnswer}
@@ -25,13 +28,17 @@ use Rattle.history.specs.Images.{Images, images}
 use Rattle.history.specs.Plan.{Anchored, Relocatable}
 
 -- which address the loader symbol with place k in the table follows: an import its own, a deferred import (file id 0) none, any other its section's
-unfoldable pub followedOf : Parts → ℕ → LoaderEntry → Followed
-followedOf p k e =
+unfoldable pub followedOf : SectionNumber → ℕ → LoaderEntry → Followed
+followedOf text k e =
     cond (isImported (e .smtype)) (cond (eqb (e .ifile) 0) followed.Nothing (followed.Import k (e .value)))
-    (cond (eqb (e .scnum) (p .text .number .0)) followed.Text followed.Data)
+    (cond (eqb (e .scnum) (text .0)) followed.Text followed.Data)
 
-unfoldable pub followedAt : List ℕ → Loadable → ℕ → Followed
-followedAt file l k = followedOf (l .layout .parts) k (entryAt (l .layout .format) (entryStart (l .tables) k) file)
+-- in a table that starts at `start`
+unfoldable pub followedIn : List ℕ → Format → FileOffset → SectionNumber → ℕ → Followed
+followedIn file f start text k = followedOf text k (entryAt f (start .0 + k * loaderSymbolLength) file)
+
+abbrev pub followedAt : List ℕ → Loadable → ℕ → Followed
+followedAt file l k = followedIn file (l .layout .format) (l .tables .symbols) (l .layout .parts .text .number) k
 
 -- n symbols from place k
 unfoldable pub symbolsFrom : List ℕ → Loadable → ℕ → ℕ → List Followed

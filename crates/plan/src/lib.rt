@@ -1,13 +1,18 @@
 // Plans for a module: which address each symbol follows, and whether a plan's addresses fit.
 ghost use mathlib.Core.Path.{_≡_};
-ghost use Prim.Native.Nat.{_+_, _<_};
+ghost use Prim.Native.Nat.{_+_, _*_, _≤_, _<_};
 ghost use lib.ListN.{length};
+ghost use Rattle.format.specs.Layout.{loaderSymbolLength};
+ghost use Rattle.format.specs.Limit.{fileLimit};
 ghost use Rattle.refusal.specs.Refusal.{isRefused};
 ghost use Rattle.refusal.specs.Order.{firstOf};
 ghost use Rattle.loadable.specs.Valid.{Valid};
 ghost use Rattle.history.specs.Plan.{Plan, fits, listCheck, fitCheck};
-ghost use Rattle.plan.specs.Relocatable.{followedAt, relocationAt, relocatableOf};
+ghost use Rattle.plan.specs.Relocatable.{followedIn, relocationAt, relocatableOf};
 ghost use Rattle.plan.specs.Import.{importAt};
+use format::FileOffset;
+use format::Format;
+use format::SectionNumber;
 use history::Followed;
 use history::Relocation;
 use loadable::Loadable;
@@ -16,16 +21,19 @@ use refusal::Refusal;
 use refusal::RoomItem;
 use refusal::Verdict;
 
-// Which address the loader symbol with place `k` in the table follows. Of its entry only the fields that decide are read.
-pub fn followed_at(file: &[u8], l: Loadable, k: u64) -> Followed
-    requires { ⌜ Valid (now file) l × (k < l .tables .nsyms) ⌝ }
-    ensures { λ r. ⌜ r ≡ followedAt (now (file .entry)) l k ⌝ }
+// Which address the loader symbol with place `k` follows, in a table that starts at `start`; `number` is the text section's. It takes the
+// few numbers that it needs and no struct, which a loop over the entries would copy at each turn.
+pub fn followed_at(
+    file: &[u8],
+    f: Format,
+    start: FileOffset,
+    number: SectionNumber,
+    k: u64,
+) -> Followed
+    requires { ⌜ (start .0 + k * loaderSymbolLength + loaderSymbolLength ≤ length (now file)) × (length (now file) ≤ fileLimit) ⌝ }
+    ensures { λ r. ⌜ r ≡ followedIn (now (file .entry)) f start number k ⌝ }
 {
-    let m = l.layout;
-    let t = l.tables;
-    let symbols = t.symbols;
-    let base = (symbols.0 + k * format::LOADER_SYMBOL_LENGTH) as usize;
-    let f = m.format;
+    let base = (start.0 + k * format::LOADER_SYMBOL_LENGTH) as usize;
     let fields = format::symbol_layout(f);
     let smtype = word::read_field(file, base, word::one(14));
     if smtype / 64 % 2 == 1 {
@@ -36,11 +44,8 @@ pub fn followed_at(file: &[u8], l: Loadable, k: u64) -> Followed
         let value = fields.value;
         return Followed::Import(k, word::read_field(file, base, value));
     }
-    let p = m.parts;
-    let text = p.text;
-    let n = text.number;
     let scnum = fields.scnum;
-    if word::read_field(file, base, scnum) == n.0 {
+    if word::read_field(file, base, scnum) == number.0 {
         return Followed::Text;
     }
     Followed::Data
@@ -95,7 +100,14 @@ fn refuses_import(file: &[u8], l: Loadable, last: u64, list: &[u64], k: u64) -> 
     if list[k as usize] <= last {
         return false;
     }
-    let f = followed_at(file, l, k);
+    let m = l.layout;
+    let t = l.tables;
+    let format = m.format;
+    let start = t.symbols;
+    let p = m.parts;
+    let text = p.text;
+    let number = text.number;
+    let f = followed_at(file, format, start, number, k);
     match f {
         Followed::Text => false,
         Followed::Data => false,

@@ -3,6 +3,7 @@ ghost use mathlib.Core.Path.{_≡_};
 ghost use Prim.Native.Nat.{_+_, _≤_};
 ghost use lib.ListN.{length};
 ghost use lib.IntN.{pos, negℤ};
+ghost use Rattle.word.specs.Number.{fieldAt};
 ghost use Rattle.update.specs.Update.{putField, addField};
 
 pub fn put8(s: &mut [u8], off: usize, v: u8)
@@ -63,12 +64,23 @@ pub fn sub32(s: &mut [u8], off: usize, d: u64)
     );
 }
 
+// The field of 8 bytes at `off`. Its low half is read first: a branch for 4 bytes beside this one starts with the high half's bytes,
+// which the compiler would take out of both, and no load of 8 bytes would be left.
+fn read64(s: &[u8], off: usize) -> u64
+    requires { ⌜ off + 8 ≤ length (now s) ⌝ }
+    ensures { λ r. ⌜ r ≡ fieldAt 8 off (now (s .entry)) ⌝ }
+{
+    let low = word::get32(s, off + 4);
+    let high = word::get32(s, off);
+    (high as u64) * 4294967296 + (low as u64)
+}
+
 // Adds `d` to the field of 8 bytes at `off`.
 pub fn add64(s: &mut [u8], off: usize, d: u64)
     requires { ⌜ off + 8 ≤ length (now s) ⌝ }
     ensures { λ _. ⌜ now (s .exit) ≡ addField 8 off (pos d) (now (s .entry)) ⌝ }
 {
-    let v = word::get64(s, off);
+    let v = read64(s, off);
     put64(s, off, std::num::wrapping_add_u64(v, d));
 }
 
@@ -77,6 +89,6 @@ pub fn sub64(s: &mut [u8], off: usize, d: u64)
     requires { ⌜ off + 8 ≤ length (now s) ⌝ }
     ensures { λ _. ⌜ now (s .exit) ≡ addField 8 off (negℤ (pos d)) (now (s .entry)) ⌝ }
 {
-    let v = word::get64(s, off);
+    let v = read64(s, off);
     put64(s, off, std::num::wrapping_sub_u64(v, d));
 }

@@ -2,6 +2,7 @@ use borrow.Author.Needs.{needs}
 use native.Mathlib.Omega.{arith}
 use Rattle.history.specs.Plan.{addressCheck}
 use Rattle.plan.proofs.Fit.{import-above, import-below}
+use Rattle.plan.proofs.Symbols.{symbol-in}
 use Rattle.plan.specs.Import.{importAt}
 use Rattle.word.proofs.Test.{found}
 use Rattle.plan.proofs.refuses_import.Statement.{statement}
@@ -17,7 +18,7 @@ returns : tie.Need-returns
 returns c = import-below _ _ _ _ _ (omega (arith, c .if1 .taken))
 
 followed-at-requires : tie.Need-followed-at-requires
-followed-at-requires c κs = search needs
+followed-at-requires c κs = let a = c .before .before .before .before .before .before .before .before .before .before .args in symbol-in (a .file .now) (a .l) (a .k) (c .before .before .before .before .before .before .before .before .before .before .pre .0) (c .before .before .before .before .before .before .before .before .before .before .pre .2)
 
 enum-told : tie.Need-enum-told
 enum-told c = search needs
@@ -41,7 +42,7 @@ returns-3 c = rw (found (c .before .before .followed-at .ensures) (c .enum-told2
 
 returns-4 : tie.Need-returns-4
 returns-4 c =
-    import-above _ _ _ _ _ _ _ (found (c .before .before .followed-at .ensures) (c .enum-told3 .given .1)) (omega (arith, c .before .before .before .if1 .left))
+    import-above _ _ _ _ _ _ _ (found (c .before .before .followed-at .ensures) (c .enum-told3 .given .1)) (omega (arith, c .before .before .before .before .before .before .before .before .before .if1 .left))
 
 returns-5 : tie.Need-returns-5
 unfolding importAt addressCheck

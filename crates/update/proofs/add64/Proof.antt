@@ -5,8 +5,8 @@ use Rattle.update.proofs.Laws.{put-sum}
 use Rattle.update.proofs.add64.Statement.{statement}
 use Rattle.update.proofs.add64.Tie as tie
 
-get64-requires : tie.Need-get64-requires
-get64-requires c κs = search needs
+read64-requires : tie.Need-read64-requires
+read64-requires c κs = search needs
 
 wrapping-add-u64-requires : tie.Need-wrapping-add-u64-requires
 wrapping-add-u64-requires c κs = search needs
@@ -26,4 +26,4 @@ returns c =
 pub add64-spec : {M : Type 1} → statement M
 add64-spec =
     tie.close
-    (tie.spec get64-requires wrapping-add-u64-requires put64-requires same-length returns)
+    (tie.spec read64-requires wrapping-add-u64-requires put64-requires same-length returns)
