@@ -147,7 +147,14 @@ extern "C" {
     fn xcoff_import_member(file: *const u8, length: usize, n: u64) -> Range;
     fn xcoff_sheet_head(sheet: *const u8, length: usize) -> Sheet;
     fn xcoff_read_sheet(sheet: *const u8, length: usize, list: *mut u64, places: usize) -> Sheet;
-    fn xcoff_write_sheet(text: u64, data: u64, list: *const u64, places: usize, sheet: *mut u8, length: usize) -> Cause;
+    fn xcoff_write_sheet(
+        text: u64,
+        data: u64,
+        list: *const u64,
+        places: usize,
+        sheet: *mut u8,
+        length: usize,
+    ) -> Cause;
     fn xcoff_build(
         file: *const u8,
         length: usize,
@@ -186,6 +193,20 @@ extern "C" {
         data: *mut u8,
         data_length: usize,
     );
+    fn xcoff_symbol_table(file: *const u8, length: usize, rows: *mut u64, numbers: usize) -> Walk;
+    fn xcoff_loader_symbol_table(
+        file: *const u8,
+        length: usize,
+        rows: *mut u64,
+        numbers: usize,
+    ) -> Cause;
+    fn xcoff_relocation_table(
+        file: *const u8,
+        length: usize,
+        rows: *mut u64,
+        numbers: usize,
+    ) -> Cause;
+    fn xcoff_import_table(file: *const u8, length: usize, rows: *mut u64, numbers: usize) -> Cause;
 }
 
 pub fn open(file: &[u8]) -> Open {
@@ -249,7 +270,16 @@ pub fn read_sheet(sheet: &[u8], list: &mut [u64]) -> Sheet {
 }
 
 pub fn write_sheet(text: u64, data: u64, list: &[u64], sheet: &mut [u8]) -> Cause {
-    unsafe { xcoff_write_sheet(text, data, list.as_ptr(), list.len(), sheet.as_mut_ptr(), sheet.len()) }
+    unsafe {
+        xcoff_write_sheet(
+            text,
+            data,
+            list.as_ptr(),
+            list.len(),
+            sheet.as_mut_ptr(),
+            sheet.len(),
+        )
+    }
 }
 
 pub fn build(file: &[u8], at: (u64, u64), list: &[u64], text: &mut [u8], data: &mut [u8]) -> Call {
@@ -311,4 +341,20 @@ pub fn replay(file: &[u8], script: &[u64], text: &mut [u8], data: &mut [u8]) {
             data.len(),
         )
     }
+}
+
+pub fn symbol_table(file: &[u8], rows: &mut [u64]) -> Walk {
+    unsafe { xcoff_symbol_table(file.as_ptr(), file.len(), rows.as_mut_ptr(), rows.len()) }
+}
+
+pub fn loader_symbol_table(file: &[u8], rows: &mut [u64]) -> Cause {
+    unsafe { xcoff_loader_symbol_table(file.as_ptr(), file.len(), rows.as_mut_ptr(), rows.len()) }
+}
+
+pub fn relocation_table(file: &[u8], rows: &mut [u64]) -> Cause {
+    unsafe { xcoff_relocation_table(file.as_ptr(), file.len(), rows.as_mut_ptr(), rows.len()) }
+}
+
+pub fn import_table(file: &[u8], rows: &mut [u64]) -> Cause {
+    unsafe { xcoff_import_table(file.as_ptr(), file.len(), rows.as_mut_ptr(), rows.len()) }
 }

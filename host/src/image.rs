@@ -26,12 +26,29 @@ pub enum Call {
 }
 
 /// Builds the images of the module in `file` for a plan. A refusal changes no byte of the buffers.
-pub fn build_images(file: &[u8], plan: &Plan, text: &mut [u8], data: &mut [u8]) -> Result<Reached, Refusal> {
-    reached(ffi::build(file, (plan.text, plan.data), &plan.list, text, data))
+pub fn build_images(
+    file: &[u8],
+    plan: &Plan,
+    text: &mut [u8],
+    data: &mut [u8],
+) -> Result<Reached, Refusal> {
+    reached(ffi::build(
+        file,
+        (plan.text, plan.data),
+        &plan.list,
+        text,
+        data,
+    ))
 }
 
 /// Moves images from one plan to another, taking the buffers as they are. A refusal changes no byte of them.
-pub fn move_images(file: &[u8], from: &Plan, to: &Plan, text: &mut [u8], data: &mut [u8]) -> Result<Reached, Refusal> {
+pub fn move_images(
+    file: &[u8],
+    from: &Plan,
+    to: &Plan,
+    text: &mut [u8],
+    data: &mut [u8],
+) -> Result<Reached, Refusal> {
     reached(ffi::move_images(
         file,
         (from.text, from.data),
@@ -70,7 +87,12 @@ pub fn read_sheet_into(sheet: &[u8], list: &mut [u64]) -> Result<(u64, u64), Ref
 }
 
 /// Writes the sheet of a plan into a buffer of exactly its length. A refusal leaves the buffer as it was.
-pub fn write_sheet_into(text: u64, data: u64, list: &[u64], sheet: &mut [u8]) -> Result<(), Refusal> {
+pub fn write_sheet_into(
+    text: u64,
+    data: u64,
+    list: &[u64],
+    sheet: &mut [u8],
+) -> Result<(), Refusal> {
     let written = ffi::write_sheet(text, data, list, sheet);
     accepted(written.number, written.item)
 }

@@ -8,11 +8,17 @@
 mod ffi;
 mod image;
 mod refusal;
+mod tables;
 
 pub use image::{
-    build_images, move_images, read_sheet, read_sheet_into, replay, write_sheet, write_sheet_into, Call, Plan, Reached,
+    build_images, move_images, read_sheet, read_sheet_into, replay, write_sheet, write_sheet_into,
+    Call, Plan, Reached,
 };
 pub use refusal::Refusal;
+pub use tables::{
+    import_table, loader_symbol_table, relocation_table, symbol_table, Image, ImportId,
+    ImportTable, LoaderRow, Relocation, SymbolRow, SymbolTable,
+};
 
 /// XCOFF32 or XCOFF64.
 #[derive(Clone, Copy, Debug, PartialEq, Eq)]
@@ -208,13 +214,7 @@ pub fn symbol_name(file: &[u8], i: u64) -> Result<&[u8], Refusal> {
 
 /// Reads every symbol in turn, up to the table's end or the first that is refused.
 pub fn walk(file: &[u8]) -> Result<Walk, Refusal> {
-    let a = ffi::walk(file);
-    accepted(a.number, a.item)?;
-    Ok(Walk {
-        visited: a.visited,
-        end: a.end,
-        cause: accepted(a.cause.number, a.cause.item).err(),
-    })
+    walk_of(ffi::walk(file))
 }
 
 /// The csect entry of symbol `i`.
@@ -286,6 +286,15 @@ fn accepted(number: u64, item: u64) -> Result<(), Refusal> {
         0 => Ok(()),
         _ => Err(Refusal { number, item }),
     }
+}
+
+fn walk_of(a: ffi::Walk) -> Result<Walk, Refusal> {
+    accepted(a.number, a.item)?;
+    Ok(Walk {
+        visited: a.visited,
+        end: a.end,
+        cause: accepted(a.cause.number, a.cause.item).err(),
+    })
 }
 
 fn part_of(file: &[u8], r: ffi::Range) -> Result<&[u8], Refusal> {

@@ -1,7 +1,10 @@
 //! Modules that GNU ld linked twice, at other addresses: building one for the other's plan gives the other's bytes.
 
 use std::path::PathBuf;
-use xcoff::{build_images, loader_symbol, module, move_images, read_sheet, replay, section, write_sheet, Call, Module, Plan};
+use xcoff::{
+    build_images, loader_symbol, module, move_images, read_sheet, replay, section, write_sheet,
+    Call, Module, Plan,
+};
 
 struct Linked {
     file: Vec<u8>,
@@ -13,17 +16,25 @@ struct Linked {
 
 fn raw(file: &[u8], n: u64, length: u64) -> Vec<u8> {
     let s = section(file, n).unwrap();
-    let mut bytes = if s.raw { file[s.scnptr as usize..(s.scnptr + s.size) as usize].to_vec() } else { Vec::new() };
+    let mut bytes = if s.raw {
+        file[s.scnptr as usize..(s.scnptr + s.size) as usize].to_vec()
+    } else {
+        Vec::new()
+    };
     bytes.resize(length as usize, 0);
     bytes
 }
 
 /// What ld wrote: the images, and the plan that they are for, every import at its recorded value.
 fn linked(name: &str) -> Linked {
-    let path = PathBuf::from(env!("CARGO_MANIFEST_DIR")).join("../tests/pairs").join(name);
+    let path = PathBuf::from(env!("CARGO_MANIFEST_DIR"))
+        .join("../tests/pairs")
+        .join(name);
     let file = std::fs::read(&path).unwrap_or_else(|e| panic!("{}: {e}", path.display()));
     let m = module(&file).unwrap_or_else(|r| panic!("{name}: {r}"));
-    let list = (3..m.symbols + 3).map(|i| loader_symbol(&file, i).unwrap().value).collect();
+    let list = (3..m.symbols + 3)
+        .map(|i| loader_symbol(&file, i).unwrap().value)
+        .collect();
     let plan = Plan {
         text: m.text.address,
         data: m.data.address,
@@ -75,8 +86,16 @@ fn building_for_the_others_plan_gives_its_bytes() {
         let back = move_images(&a.file, &b.plan, &a.plan, &mut text, &mut data).unwrap();
         assert_eq!(text, a.text, "{name}: text moved back");
         assert_eq!(data, a.data, "{name}: data moved back");
-        assert_eq!(back.entry, a.module.entry.map(|e| e.address), "{name}: entry moved back");
-        assert_eq!(back.toc, a.module.toc.map(|t| t.address), "{name}: TOC moved back");
+        assert_eq!(
+            back.entry,
+            a.module.entry.map(|e| e.address),
+            "{name}: entry moved back"
+        );
+        assert_eq!(
+            back.toc,
+            a.module.toc.map(|t| t.address),
+            "{name}: TOC moved back"
+        );
     }
 }
 
@@ -124,6 +143,10 @@ fn a_sheet_reads_back_as_its_plan() {
         let a = linked(&name);
         let sheet = write_sheet(&a.plan).unwrap();
         assert_eq!(read_sheet(&sheet).unwrap(), a.plan, "{name}");
-        assert_eq!(read_sheet(&sheet[..sheet.len() - 1]).unwrap_err().number, 21, "{name}");
+        assert_eq!(
+            read_sheet(&sheet[..sheet.len() - 1]).unwrap_err().number,
+            21,
+            "{name}"
+        );
     }
 }

@@ -3,27 +3,38 @@
 
 usage: make.py CORPUS
 
-CORPUS holds verdicts.txt and listings/NAME.txt, one for each file NAME of ../corpus (see README.md here).
-Listings are what llvm-readobj 19 and 14 and GNU objdump print; where two of them print the same fact,
-they must agree. Nothing here reads an XCOFF file itself, but the strings of import ids: no tool lists
+CORPUS holds verdicts.txt and listings/NAME.txt (or NAME.txt.xz), one for each file NAME of ../corpus and ../pairs (see
+README.md here). Listings are what llvm-readobj 19 and 14, GNU objdump and GNU nm print; where two of them print the
+same fact, they must agree. Nothing here reads an XCOFF file itself, but the strings of import ids: no tool lists
 them, so they are cut out of objdump's dump of the loader section at the place llvm-readobj names.
 """
+import lzma
 import os
 import re
 import sys
 
 HERE = os.path.dirname(os.path.abspath(__file__))
-FILES = os.path.join(HERE, "..", "corpus")
+FOLDERS = [os.path.join(HERE, "..", folder) for folder in ("corpus", os.path.join("corpus", "large"), "pairs")]
 
 
 def names():
-    """Every real file of the repository."""
-    found = []
-    for folder in (FILES, os.path.join(FILES, "large")):
+    """Every real file of the repository; one may be in two folders."""
+    found = set()
+    for folder in FOLDERS:
         for name in os.listdir(folder):
             if os.path.isfile(os.path.join(folder, name)) and not name.endswith((".txt", ".py", ".md")):
-                found.append(name)
+                found.add(name)
     return sorted(found)
+
+
+def listing_of(corpus, name):
+    """The text of a listing, None where there is none."""
+    path = os.path.join(corpus, "listings", name + ".txt")
+    for path, opener in ((path, open), (path + ".xz", lzma.open)):
+        if os.path.exists(path):
+            with opener(path, "rt", encoding="latin-1") as f:
+                return f.read()
+    return None
 
 
 def number(text):
@@ -97,6 +108,22 @@ def header_facts(text, bits):
     return facts, sections
 
 
+def check_sections(facts, gnu):
+    """objdump's sections: name, size, both addresses and, of raw data, the offset."""
+    rows = re.findall(r"^ +(\d+) (\S+) +([0-9a-f]+)  ([0-9a-f]+)  ([0-9a-f]+)  ([0-9a-f]+) ", gnu, flags=re.M)
+    told = {}
+    for fact in facts:
+        words = fact.split(" ", 7)
+        if words[0] == "section":
+            told[int(words[1], 16)] = words
+    for index, name, *numbers in rows:
+        # objdump numbers from 0, and leaves out overflow sections, which come last here.
+        _, _, paddr, vaddr, size, scnptr, _, named = told[int(index) + 1]
+        size_, vma, lma, offset = (int(n, 16) for n in numbers)
+        if (named, int(size, 16), int(vaddr, 16), int(paddr, 16), int(scnptr, 16)) != (name, size_, vma, lma, offset):
+            sys.exit("section %s: objdump differs" % index)
+
+
 def module_facts(text):
     found = blocks(text, "AuxiliaryHeader", "")
     if not found:
@@ -141,6 +168,62 @@ def loader_facts(text, dumped):
         for n in range(count):
             facts.append("id %x %s" % (n, "|".join(s.decode("latin-1") for s in strings[3 * n:3 * n + 3])))
     return facts
+
+
+def relocation_rows(text):
+    """Address, type, section, symbol and its name, as llvm-readobj lists the loader relocations."""
+    rows = re.findall(r"^ +0x([0-9a-f]+) 0x([0-9a-f]+) \(\w+\) +(\d+) +(.*) \((-?\d+)\)$", text, flags=re.M)
+    return [(int(a, 16), int(t, 16), int(sec), int(sym), name) for a, t, sec, name, sym in rows]
+
+
+def relocation_facts(text, dynamic):
+    """Entries of one type and section at equal distances become one fact, with their symbols."""
+    rows = relocation_rows(text)
+    header = blocks(text, "Loader Section Header", "    ")
+    if not header or "Loader Section Relocations" not in text:
+        return []
+    if number(fields(header[0])["NumberOfRelocationEntries"]) != len(rows):
+        sys.exit("relocations: their number differs")
+    # objdump prints R_POS for every type.
+    told = re.findall(r"^([0-9a-f]+) R_POS +(\S+)$", dynamic.partition("DYNAMIC RELOCATION RECORDS")[2], flags=re.M)
+    if told and [(int(a, 16), n) for a, n in told] != [(r[0], r[4]) for r in rows]:
+        sys.exit("relocations: objdump differs")
+    runs = []
+    for index, (address, rtype, section, symbol, _) in enumerate(rows):
+        last = runs[-1] if runs else None
+        if last and last["same"] == (rtype, section) and last["step"] in (None, address - last["end"]):
+            last.update(step=address - last["end"], end=address)
+            last["symbols"].append(symbol)
+        else:
+            runs.append(dict(index=index, start=address, end=address, step=None, same=(rtype, section), symbols=[symbol]))
+    return ["lrel %x %x %d %x %x %x %s" % (r["index"], len(r["symbols"]), r["step"] or 0, r["start"], *r["same"],
+                                           ",".join(str(n) for n in cycle(r["symbols"]))) for r in runs]
+
+
+def cycle(values):
+    """The shortest start that, repeated, gives all values."""
+    for length in range(1, len(values)):
+        if all(value == values[i % length] for i, value in enumerate(values)):
+            return values[:length]
+    return values
+
+
+def check_dynamic(facts, dynamic):
+    """objdump's dynamic symbols: name and value of each loader symbol, in order."""
+    rows = re.findall(r"^([0-9a-f]+) .{7} \S+ +\S+ +(\S+)$", dynamic.partition("DYNAMIC RELOCATION")[0], flags=re.M)
+    told = [fact.split(" ", 8) for fact in facts if fact.startswith("lsym ")]
+    if rows and [(int(v, 16), n) for v, n in rows] != [(int(w[2], 16), w[8]) for w in told]:
+        sys.exit("loader symbols: objdump differs")
+
+
+def check_names(gnu, nm):
+    """nm's symbols are objdump's: the same values with the same names, 0 for the undefined."""
+    listed = re.findall(r"^\[ *\d+\]\(sec.*\) 0x([0-9a-f]+) ?(.*)$", gnu, flags=re.M)
+    listed = {(int(value, 16), name) for value, name in listed}
+    # nm's word for debugging symbols is ?; their names are in the debug section.
+    for value, name in re.findall(r"^([0-9a-f]+| +) [^?] (.*)$", nm, flags=re.M):
+        if (int(value.strip() or "0", 16), name) not in listed:
+            sys.exit("nm differs: %s %s" % (value, name))
 
 
 def symbol_facts(llvm, gnu, sections):
@@ -197,37 +280,50 @@ def facts_of(listing):
     facts, sections = header_facts(first, bits)
     if facts != header_facts(found["llvm-readobj-14 --file-headers --section-headers"], bits)[0]:
         sys.exit("llvm-readobj 19 and 14 differ")
+    check_sections(facts, found.get("GNU objdump -x") or found["GNU objdump -h -f"])
     facts += module_facts(first)
-    loader = "llvm-readobj-19 --loader-section-header --loader-section-symbols --loader-section-relocations"
-    facts += loader_facts(found.get(loader) or found["llvm-readobj-19 loader header"],
-                          dump(found.get("GNU objdump -s .debug .loader", "")))
+    loader = found.get("llvm-readobj-19 --loader-section-header --loader-section-symbols --loader-section-relocations")
+    if loader is None:
+        # Of a large file only the first symbols are listed, and not its relocations.
+        loader = found["llvm-readobj-19 loader header"] + found["(large file: first lines of the rest)"]
+    dynamic = found.get("GNU objdump -T -R (shared objects only)", "")
+    tables = loader_facts(loader, dump(found.get("GNU objdump -s .debug .loader", "")))
+    check_dynamic(tables, dynamic)
+    facts += tables + relocation_facts(loader, dynamic)
     if "llvm-readobj-19 --syms" in found:
         facts += symbol_facts(found["llvm-readobj-19 --syms"], found["GNU objdump -x"], sections)
+        check_names(found["GNU objdump -x"], found["GNU nm -A"])
     return facts
 
 
-def main():
-    corpus = sys.argv[1]
+def write_verdicts(corpus):
     with open(os.path.join(corpus, "verdicts.txt"), encoding="latin-1") as f:
         verdicts = dict(verdict(line) for line in f if line.strip())
     with open(os.path.join(HERE, "verdicts.txt"), "w", encoding="latin-1") as f:
         for name in names():
             if name in verdicts:
                 f.write("%s %s\n" % (name, verdicts[name]))
+
+
+def write_facts(corpus):
     with open(os.path.join(HERE, "facts.txt"), "w", encoding="latin-1") as f:
         for name in names():
-            path = os.path.join(corpus, "listings", name + ".txt")
-            if not os.path.exists(path):
-                print("no listing of", name)
-                continue
-            with open(path, encoding="latin-1") as listing:
-                text = listing.read()
-            if "FileHeader {" not in text:
+            listing = listing_of(corpus, name)
+            if listing is None:
+                sys.exit("no listing of %s" % name)
+            if "FileHeader {" not in listing:
                 print("not listed by the tools:", name)
                 continue
             f.write("@%s\n" % name)
-            for fact in facts_of(text):
-                f.write(fact + "\n")
+            try:
+                f.write("".join(fact + "\n" for fact in facts_of(listing)))
+            except SystemExit as why:
+                sys.exit("%s: %s" % (name, why))
+
+
+def main():
+    write_verdicts(sys.argv[1])
+    write_facts(sys.argv[1])
 
 
 if __name__ == "__main__":

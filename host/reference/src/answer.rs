@@ -42,6 +42,66 @@ fn hex_or_sum(text: &str) -> String {
     text.to_string()
 }
 
+fn plan_text(plan: &Plan) -> String {
+    format!("{:x},{:x},{}", plan.text, plan.data, bracketed(&plan.list))
+}
+
+fn bracketed(list: &[u64]) -> String {
+    format!("[{}]", list_text(list))
+}
+
+/// The arguments of an operation: addresses in hex, indexes in decimal, a plan as
+/// TEXT,DATA,[LIST].
+pub fn arguments(op: &Op) -> String {
+    match op {
+        Op::Section(n)
+        | Op::SectionName(n)
+        | Op::Symbol(n)
+        | Op::SymbolName(n)
+        | Op::Csect(n)
+        | Op::LoaderSymbol(n)
+        | Op::LoaderSymbolName(n)
+        | Op::ImportPath(n)
+        | Op::ImportBase(n)
+        | Op::ImportMember(n) => n.to_string(),
+        Op::Build { plan, text, data } => {
+            format!("{} text={} data={}", plan_text(plan), hex(text), hex(data))
+        }
+        Op::Move {
+            from,
+            to,
+            text,
+            data,
+        } => format!(
+            "{} {} text={} data={}",
+            plan_text(from),
+            plan_text(to),
+            hex(text),
+            hex(data)
+        ),
+        Op::Calls { calls, text, data } => {
+            let all: Vec<String> = calls
+                .iter()
+                .map(|call| match call {
+                    Call::Build(plan) => format!("build {}", plan_text(plan)),
+                    Call::Move(from, to) => format!("move {} {}", plan_text(from), plan_text(to)),
+                })
+                .collect();
+            format!("text={} data={} {}", hex(text), hex(data), all.join(" / "))
+        }
+        Op::ReadSheet { sheet, list } => format!("{} {}", hex(sheet), bracketed(list)),
+        Op::WriteSheet {
+            text,
+            data,
+            list,
+            sheet,
+        } => {
+            format!("{text:x},{data:x},{} {}", bracketed(list), hex(sheet))
+        }
+        _ => String::new(),
+    }
+}
+
 fn refusal_text(refusal: &Refusal) -> String {
     format!("refused {} {}", refusal.number, refusal.item)
 }
@@ -67,7 +127,10 @@ fn reached_text(reached: &Reached) -> String {
 
 fn answer(result: Result<String, Refusal>, buffers: &str) -> Answer {
     match result {
-        Ok(text) => Answer { text: format!("{text}{buffers}"), refusals: Vec::new() },
+        Ok(text) => Answer {
+            text: format!("{text}{buffers}"),
+            refusals: Vec::new(),
+        },
         Err(refusal) => Answer {
             text: format!("{}{buffers}", refusal_text(&refusal)),
             refusals: vec![refusal],
@@ -84,159 +147,207 @@ fn images_text(text: &[u8], data: &[u8]) -> String {
     format!(" | {} | {}", hex(text), hex(data))
 }
 
+fn entry_text(file: &[u8], entry: &Symbol) -> String {
+    format!(
+        "value {:x} section {} type {:x} class {} aux {} name {}",
+        entry.value,
+        entry.section,
+        entry.kind,
+        entry.class,
+        entry.auxiliaries,
+        hex(&file[entry.name.clone()])
+    )
+}
+
+fn loader_symbol_text(file: &[u8], entry: &LoaderSymbol) -> String {
+    format!(
+        "value {:x} section {} type {:x} class {} id {} parameter {} name {}",
+        entry.value,
+        entry.section,
+        entry.kind,
+        entry.class,
+        entry.file_id,
+        entry.parameter,
+        hex(&file[entry.name.clone()])
+    )
+}
+
+fn relocation_text(entry: &Relocation) -> String {
+    format!(
+        "{:x} {} {:04x} {} {}{}",
+        entry.address,
+        entry.symbol,
+        entry.kind,
+        entry.section,
+        if entry.subtract { "-" } else { "+" },
+        entry.width
+    )
+}
+
+fn module_text(m: &Module) -> String {
+    format!(
+        "bits {} numbers {} {} {} {} addresses {:x} {:x} {:x} sizes {} {} {} image {} \
+         symbols {} relocations {} ids {} entry {} {:x} toc {} {:x}",
+        m.bits,
+        m.text,
+        m.data,
+        m.bss,
+        m.loader,
+        m.text_address,
+        m.data_address,
+        m.bss_address,
+        m.text_size,
+        m.data_size,
+        m.bss_size,
+        m.data_image,
+        m.loader_symbols,
+        m.relocations,
+        m.import_ids,
+        m.entry_section,
+        m.entry_address,
+        m.toc_section,
+        m.toc_address
+    )
+}
+
+/// Rows of a table, one after the other.
+fn rows<T>(all: Result<Vec<T>, Refusal>, row: impl Fn(&T) -> String) -> Answer {
+    let text = |all: Vec<T>| hex_or_sum(&all.iter().map(row).collect::<Vec<_>>().join("; "));
+    answer(all.map(text), "")
+}
+
 /// Runs `op` on `file`.
 pub fn run(file: &[u8], op: &Op) -> Answer {
     match op {
-        Op::Open => answer(
-            open(file).map(|summary| {
-                let sections: Vec<String> = summary.sections.iter().map(section_text).collect();
-                format!(
-                    "bits {} symbols {} opthdr {} flags {:x} sections [{}]",
-                    summary.bits,
-                    summary.symbols,
-                    summary.opthdr,
-                    summary.flags,
-                    sections.join("; ")
-                )
-            }),
-            "",
-        ),
+        Op::Open => answer(open(file).map(|summary| summary_text(&summary)), ""),
         Op::Section(n) => answer(section(file, *n).map(|section| section_text(&section)), ""),
         Op::SectionName(n) => name(file, section_name(file, *n)),
         Op::Symbol(index) => answer(
-            symbol(file, *index).map(|entry| {
-                format!(
-                    "value {:x} section {} type {:x} class {} aux {} name {}",
-                    entry.value,
-                    entry.section,
-                    entry.kind,
-                    entry.class,
-                    entry.auxiliaries,
-                    hex(&file[entry.name])
-                )
-            }),
+            symbol(file, *index).map(|entry| entry_text(file, &entry)),
             "",
         ),
         Op::SymbolName(index) => name(file, symbol_name(file, *index)),
-        Op::Walk => match walk(file) {
-            Ok(found) => Answer {
-                text: match found.refusal {
-                    Some(refusal) => format!(
-                        "visited {} end {} {}",
-                        found.visited,
-                        found.end,
-                        refusal_text(&refusal)
-                    ),
-                    None => format!("visited {} end {} whole", found.visited, found.end),
-                },
-                refusals: found.refusal.into_iter().collect(),
-            },
-            Err(refusal) => answer(Err(refusal), ""),
-        },
-        Op::Csect(index) => answer(
-            csect(file, *index).map(|found| {
-                format!(
-                    "length {:x} alignment {} type {} class {}",
-                    found.length, found.alignment, found.kind, found.class
-                )
-            }),
-            "",
-        ),
-        Op::Module => answer(
-            module(file).map(|m| {
-                format!(
-                    "bits {} numbers {} {} {} {} addresses {:x} {:x} {:x} sizes {} {} {} image {} \
-                     symbols {} relocations {} ids {} entry {} {:x} toc {} {:x}",
-                    m.bits,
-                    m.text,
-                    m.data,
-                    m.bss,
-                    m.loader,
-                    m.text_address,
-                    m.data_address,
-                    m.bss_address,
-                    m.text_size,
-                    m.data_size,
-                    m.bss_size,
-                    m.data_image,
-                    m.loader_symbols,
-                    m.relocations,
-                    m.import_ids,
-                    m.entry_section,
-                    m.entry_address,
-                    m.toc_section,
-                    m.toc_address
-                )
-            }),
-            "",
-        ),
-        Op::Relocations => answer(
-            relocations(file).map(|entries| {
-                let all: Vec<String> = entries
-                    .iter()
-                    .map(|entry| {
-                        format!(
-                            "{:x} {} {:04x} {} {}{}",
-                            entry.address,
-                            entry.symbol,
-                            entry.kind,
-                            entry.section,
-                            if entry.subtract { "-" } else { "+" },
-                            entry.width
-                        )
-                    })
-                    .collect();
-                hex_or_sum(&all.join("; "))
-            }),
-            "",
-        ),
+        Op::Walk => walk_answer(file),
+        Op::Csect(index) => answer(csect(file, *index).map(|found| csect_text(&found)), ""),
+        Op::Symbols => rows(walked(file), |entry| entry_text(file, entry)),
+        Op::Build { .. } | Op::Move { .. } | Op::Calls { .. } => image_answer(file, op),
+        Op::ReadSheet { .. } | Op::WriteSheet { .. } => sheet_answer(op),
+        Op::List => {
+            let text = list_headers(file);
+            Answer {
+                text: text.replace('\n', "\\n"),
+                refusals: Vec::new(),
+            }
+        }
+        _ => loaded_answer(file, op),
+    }
+}
+
+/// What is read of a module.
+fn loaded_answer(file: &[u8], op: &Op) -> Answer {
+    match op {
+        Op::Relocations => rows(relocations(file), relocation_text),
+        Op::LoaderSymbols => rows(loader_symbols(file), |entry| {
+            loader_symbol_text(file, entry)
+        }),
+        Op::ImportIds => rows(import_ids(file), |id| {
+            id.iter()
+                .map(|part| hex(&file[part.clone()]))
+                .collect::<Vec<_>>()
+                .join(" ")
+        }),
         Op::LoaderSymbol(index) => answer(
-            loader_symbol(file, *index).map(|entry| {
-                format!(
-                    "value {:x} section {} type {:x} class {} id {} parameter {} name {}",
-                    entry.value,
-                    entry.section,
-                    entry.kind,
-                    entry.class,
-                    entry.file_id,
-                    entry.parameter,
-                    hex(&file[entry.name])
-                )
-            }),
+            loader_symbol(file, *index).map(|entry| loader_symbol_text(file, &entry)),
             "",
         ),
         Op::LoaderSymbolName(index) => name(file, loader_symbol_name(file, *index)),
         Op::ImportPath(id) => name(file, import_path(file, *id)),
         Op::ImportBase(id) => name(file, import_base(file, *id)),
         Op::ImportMember(id) => name(file, import_member(file, *id)),
-        Op::Build { plan, text, data } => {
-            let (mut text, mut data) = (text.clone(), data.clone());
-            let result = build(file, plan, &mut text, &mut data);
-            answer(result.map(|reached| reached_text(&reached)), &images_text(&text, &data))
-        }
-        Op::Move { from, to, text, data } => {
-            let (mut text, mut data) = (text.clone(), data.clone());
-            let result = move_images(file, from, to, &mut text, &mut data);
-            answer(result.map(|reached| reached_text(&reached)), &images_text(&text, &data))
-        }
-        Op::Calls { calls, text, data } => {
-            let (mut text, mut data) = (text.clone(), data.clone());
-            let mut parts = Vec::new();
-            let mut refusals = Vec::new();
-            for call in calls {
-                let result = match call {
-                    Call::Build(plan) => build(file, plan, &mut text, &mut data),
-                    Call::Move(from, to) => move_images(file, from, to, &mut text, &mut data),
-                };
-                let one = answer(
-                    result.map(|reached| reached_text(&reached)),
-                    &images_text(&text, &data),
-                );
-                parts.push(one.text);
-                refusals.extend(one.refusals);
-            }
-            Answer { text: parts.join(" / "), refusals }
-        }
+        _ => answer(module(file).map(|m| module_text(&m)), ""),
+    }
+}
+
+fn summary_text(summary: &Summary) -> String {
+    let sections: Vec<String> = summary.sections.iter().map(section_text).collect();
+    format!(
+        "bits {} symbols {} opthdr {} flags {:x} sections [{}]",
+        summary.bits,
+        summary.symbols,
+        summary.opthdr,
+        summary.flags,
+        sections.join("; ")
+    )
+}
+
+fn csect_text(found: &Csect) -> String {
+    format!(
+        "length {:x} alignment {} type {} class {}",
+        found.length, found.alignment, found.kind, found.class
+    )
+}
+
+fn walk_answer(file: &[u8]) -> Answer {
+    let found = match walk(file) {
+        Ok(found) => found,
+        Err(refusal) => return answer(Err(refusal), ""),
+    };
+    let end = match found.refusal {
+        Some(refusal) => refusal_text(&refusal),
+        None => "whole".to_string(),
+    };
+    Answer {
+        text: format!("visited {} end {} {end}", found.visited, found.end),
+        refusals: found.refusal.into_iter().collect(),
+    }
+}
+
+/// Runs one call on the buffers.
+pub fn run_call(
+    file: &[u8],
+    call: &Call,
+    text: &mut [u8],
+    data: &mut [u8],
+) -> Result<Reached, Refusal> {
+    match call {
+        Call::Build(plan) => build(file, plan, text, data),
+        Call::Move(from, to) => move_images(file, from, to, text, data),
+    }
+}
+
+/// A list answers for each call, with the buffers after it.
+fn image_answer(file: &[u8], op: &Op) -> Answer {
+    let (calls, text, data) = match op {
+        Op::Build { plan, text, data } => (vec![Call::Build(plan.clone())], text, data),
+        Op::Move {
+            from,
+            to,
+            text,
+            data,
+        } => (vec![Call::Move(from.clone(), to.clone())], text, data),
+        Op::Calls { calls, text, data } => (calls.clone(), text, data),
+        _ => unreachable!("builds, moves and lists only"),
+    };
+    let (mut text, mut data) = (text.clone(), data.clone());
+    let mut parts = Vec::new();
+    let mut refusals = Vec::new();
+    for call in &calls {
+        let result = run_call(file, call, &mut text, &mut data);
+        let one = answer(
+            result.map(|reached| reached_text(&reached)),
+            &images_text(&text, &data),
+        );
+        parts.push(one.text);
+        refusals.extend(one.refusals);
+    }
+    Answer {
+        text: parts.join(" / "),
+        refusals,
+    }
+}
+
+fn sheet_answer(op: &Op) -> Answer {
+    match op {
         Op::ReadSheet { sheet, list } => {
             let mut list = list.clone();
             let result = read_sheet(sheet, &mut list);
@@ -245,7 +356,12 @@ pub fn run(file: &[u8], op: &Op) -> Answer {
                 &format!(" | {}", list_text(&list)),
             )
         }
-        Op::WriteSheet { text, data, list, sheet } => {
+        Op::WriteSheet {
+            text,
+            data,
+            list,
+            sheet,
+        } => {
             let mut sheet = sheet.clone();
             let result = write_sheet(*text, *data, list, &mut sheet);
             answer(
@@ -253,9 +369,6 @@ pub fn run(file: &[u8], op: &Op) -> Answer {
                 &format!(" | {}", hex(&sheet)),
             )
         }
-        Op::List => {
-            let text = list_headers(file);
-            Answer { text: text.replace('\n', "\\n"), refusals: Vec::new() }
-        }
+        _ => unreachable!("sheets only"),
     }
 }

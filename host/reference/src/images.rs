@@ -27,7 +27,12 @@ pub enum Call {
 }
 
 /// Builds the images for a plan.
-pub fn build(file: &[u8], plan: &Plan, text: &mut [u8], data: &mut [u8]) -> Result<Reached, Refusal> {
+pub fn build(
+    file: &[u8],
+    plan: &Plan,
+    text: &mut [u8],
+    data: &mut [u8],
+) -> Result<Reached, Refusal> {
     let loaded = load(file)?;
     judge_build(&loaded, plan, text.len(), data.len())?;
     let (raw_text, raw_data) = raw_images(file, &loaded);
@@ -195,7 +200,12 @@ fn apply_entries(loaded: &Loaded, amounts: &[i128], text: &mut [u8], data: &mut 
         let at = (entry.address - start) as usize;
         let length = entry.width as usize / 8;
         let old = number(image, at, length);
-        put(image, at, length, change(old, amount, entry.subtract, entry.width));
+        put(
+            image,
+            at,
+            length,
+            change(old, amount, entry.subtract, entry.width),
+        );
     }
 }
 

@@ -3,7 +3,7 @@
 //! Each module follows one section of document 01, in its order:
 //! `opening`, `symbols`, `module`, `images` (plans, images, moves, the book),
 //! `sheet`, `lister`. `generate` makes test cases, `answer` runs one operation
-//! of a case and writes its answer down.
+//! of a case and writes its answer down, `reached` counts the refusals by class.
 #![forbid(unsafe_code)]
 
 pub mod answer;
@@ -13,18 +13,19 @@ pub mod images;
 pub mod lister;
 pub mod module;
 pub mod opening;
+pub mod reached;
 pub mod sheet;
 pub mod symbols;
 
 pub use images::{book, build, move_images, Call, Plan, Reached};
 pub use lister::list_headers;
 pub use module::{
-    import_base, import_member, import_path, loader_symbol, loader_symbol_name, loader_symbols,
-    module, relocations, LoaderSymbol, Module, Relocation,
+    import_base, import_ids, import_member, import_path, loader_symbol, loader_symbol_name,
+    loader_symbols, module, relocations, LoaderSymbol, Module, Relocation,
 };
 pub use opening::{open, section, section_name, Section, Summary};
 pub use sheet::{read_sheet, write_sheet};
-pub use symbols::{csect, symbol, symbol_name, walk, Csect, Symbol, Walk};
+pub use symbols::{csect, symbol, symbol_name, walk, walked, Csect, Symbol, Walk};
 
 /// A refusal: its number and its item, 0 where none is named.
 #[derive(Clone, Copy, Debug, PartialEq, Eq)]

@@ -135,19 +135,28 @@ fn import_string(file: &[u8], id: u64, part: u64) -> Result<Range<usize>, Refusa
     if id >= loaded.module.import_ids {
         return refuse(INDEX, id);
     }
-    let wanted = 3 * id + part;
-    let mut count = 0;
+    Ok(id_strings(file, &loaded)[(3 * id + part) as usize].clone())
+}
+
+/// The three strings of every import id.
+pub fn import_ids(file: &[u8]) -> Result<Vec<[Range<usize>; 3]>, Refusal> {
+    let loaded = load(file)?;
+    let strings = id_strings(file, &loaded);
+    let of = |id: usize| [0, 1, 2].map(|part| strings[3 * id + part].clone());
+    Ok((0..loaded.module.import_ids as usize).map(of).collect())
+}
+
+/// The zero-ended strings of the id table, without their zeros.
+fn id_strings(file: &[u8], loaded: &Loaded) -> Vec<Range<usize>> {
+    let mut strings = Vec::new();
     let mut start = loaded.ids.start;
     for at in loaded.ids.clone() {
         if file[at] == 0 {
-            if count == wanted {
-                return Ok(start..at);
-            }
-            count += 1;
+            strings.push(start..at);
             start = at + 1;
         }
     }
-    unreachable!("the table holds three strings per id")
+    strings
 }
 
 /// Reads everything of the module, in the order of 01.
@@ -233,7 +242,14 @@ pub(crate) fn load(file: &[u8]) -> Result<Loaded, Refusal> {
     let mut entries: Vec<Relocation> = Vec::new();
     for i in 0..tables.relocation_count {
         let entry = read_relocation(file, bits, &tables, i)?;
-        judge_relocation(&entry, i, tables.symbol_count, (text_number, text), (data_number, data), bits)?;
+        judge_relocation(
+            &entry,
+            i,
+            tables.symbol_count,
+            (text_number, text),
+            (data_number, data),
+            bits,
+        )?;
         judge_overlap(&entry, i, &entries)?;
         entries.push(entry);
     }
@@ -342,7 +358,12 @@ fn read_tables(file: &[u8], bits: u64, loader: &Range<usize>) -> Result<Tables, 
         return refuse(LIMIT, 3);
     }
     let symbols = table(loader, symbol_offset, 24 * symbol_count, 2)?;
-    let relocations = table(loader, relocation_offset, entry_length * relocation_count, 3)?;
+    let relocations = table(
+        loader,
+        relocation_offset,
+        entry_length * relocation_count,
+        3,
+    )?;
     let ids = table(loader, id_offset, id_length, 4)?;
     let zeros = file[ids.clone()].iter().filter(|&&byte| byte == 0).count();
     if (zeros as u64) < 3 * id_count {

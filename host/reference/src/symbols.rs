@@ -156,6 +156,18 @@ pub fn walk(file: &[u8]) -> Result<Walk, Refusal> {
     })
 }
 
+/// The entries that the walk visits, in its order.
+pub fn walked(file: &[u8]) -> Result<Vec<Symbol>, Refusal> {
+    let summary = open(file)?;
+    let mut entries: Vec<Symbol> = Vec::new();
+    let mut index = 0;
+    while let Ok(entry) = read_entry(file, &summary, index) {
+        index += 1 + entry.auxiliaries;
+        entries.push(entry);
+    }
+    Ok(entries)
+}
+
 /// The csect entry of the symbol at `index`.
 pub fn csect(file: &[u8], index: u64) -> Result<Csect, Refusal> {
     let summary = open(file)?;

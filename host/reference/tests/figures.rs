@@ -20,7 +20,10 @@ fn p1_to_p6_fields() {
     );
     assert_eq!(change(1, 0x1_0000_0008, false, 32), 9);
     // An amount below zero is the same as one above the width.
-    assert_eq!(change(0x1_1000_0000, -0x1000_0000, false, 64), 0x1_0000_0000);
+    assert_eq!(
+        change(0x1_1000_0000, -0x1000_0000, false, 64),
+        0x1_0000_0000
+    );
 }
 
 #[test]
@@ -44,8 +47,20 @@ fn one_section(flags: u64) -> Vec<u8> {
 
 #[test]
 fn p9_flags() {
-    assert_eq!(open(&one_section(0x60)), Err(Refusal { number: KIND, item: 1 }));
-    assert_eq!(open(&one_section(0x0001_0020)), Err(Refusal { number: KIND, item: 1 }));
+    assert_eq!(
+        open(&one_section(0x60)),
+        Err(Refusal {
+            number: KIND,
+            item: 1
+        })
+    );
+    assert_eq!(
+        open(&one_section(0x0001_0020)),
+        Err(Refusal {
+            number: KIND,
+            item: 1
+        })
+    );
     let summary = open(&one_section(0x0002_0010)).unwrap();
     assert_eq!(summary.sections[0].flags, 0x10);
 }
@@ -62,8 +77,20 @@ fn p10_names() {
     file.extend_from_slice(&[0, 0, 0, 7, 0x61, 0x62, 0]);
     assert_eq!(&file[symbol_name(&file, 0).unwrap()], b"ab");
     assert_eq!(&file[symbol_name(&file, 1).unwrap()], b"");
-    assert_eq!(symbol_name(&file, 2), Err(Refusal { number: NAME, item: 2 }));
-    assert_eq!(symbol_name(&file, 3), Err(Refusal { number: NAME, item: 3 }));
+    assert_eq!(
+        symbol_name(&file, 2),
+        Err(Refusal {
+            number: NAME,
+            item: 2
+        })
+    );
+    assert_eq!(
+        symbol_name(&file, 3),
+        Err(Refusal {
+            number: NAME,
+            item: 3
+        })
+    );
     let found = walk(&file).unwrap();
     assert_eq!((found.visited, found.end), (2, 2));
 }
@@ -127,7 +154,10 @@ fn fields_in_a_section() {
     assert_eq!(module(&with_fields(&[0x1000_00FD])), refusal(LREL, 0));
     assert!(module(&with_fields(&[0x1000_0010, 0x1000_0014])).is_ok());
     assert!(module(&with_fields(&[0x1000_0010, 0x1000_0010])).is_ok());
-    assert_eq!(module(&with_fields(&[0x1000_0010, 0x1000_0012])), refusal(OVERLAP, 1));
+    assert_eq!(
+        module(&with_fields(&[0x1000_0010, 0x1000_0012])),
+        refusal(OVERLAP, 1)
+    );
 }
 
 #[test]
@@ -150,45 +180,128 @@ fn the_lister() {
 }
 
 fn made(wish: Wish) -> Made {
-    make::module(&mut Rng::new(7), &Wish { rich: true, low: true, ..wish })
+    make::module(
+        &mut Rng::new(7),
+        &Wish {
+            rich: true,
+            low: true,
+            ..wish
+        },
+    )
 }
 
 #[test]
 fn limits() {
     for bits in [Some(32), Some(64)] {
-        let wish = Wish { bits, ..Wish::default() };
-        let file = made(Wish { sections: Some(32), ..wish.clone() }).bytes;
+        let wish = Wish {
+            bits,
+            ..Wish::default()
+        };
+        let file = made(Wish {
+            sections: Some(32),
+            ..wish.clone()
+        })
+        .bytes;
         assert_eq!(open(&file).unwrap().sections.len(), 32);
-        let file = make::object(&mut Rng::new(1), &Wish { sections: Some(33), ..wish.clone() }).bytes;
-        assert_eq!(open(&file), Err(Refusal { number: LIMIT, item: 1 }));
+        let file = make::object(
+            &mut Rng::new(1),
+            &Wish {
+                sections: Some(33),
+                ..wish.clone()
+            },
+        )
+        .bytes;
+        assert_eq!(
+            open(&file),
+            Err(Refusal {
+                number: LIMIT,
+                item: 1
+            })
+        );
 
-        let file = made(Wish { loader_symbols: Some(4_096), ..wish.clone() }).bytes;
+        let file = made(Wish {
+            loader_symbols: Some(4_096),
+            ..wish.clone()
+        })
+        .bytes;
         assert_eq!(module(&file).unwrap().loader_symbols, 4_096);
-        let file = made(Wish { loader_symbols: Some(4_097), ..wish.clone() }).bytes;
-        assert_eq!(module(&file), Err(Refusal { number: LIMIT, item: 2 }));
+        let file = made(Wish {
+            loader_symbols: Some(4_097),
+            ..wish.clone()
+        })
+        .bytes;
+        assert_eq!(
+            module(&file),
+            Err(Refusal {
+                number: LIMIT,
+                item: 2
+            })
+        );
 
-        let file = made(Wish { entries: Some(4_096), ..wish.clone() }).bytes;
+        let file = made(Wish {
+            entries: Some(4_096),
+            ..wish.clone()
+        })
+        .bytes;
         assert_eq!(module(&file).unwrap().relocations, 4_096);
-        let file = made(Wish { entries: Some(4_097), ..wish.clone() }).bytes;
-        assert_eq!(module(&file), Err(Refusal { number: LIMIT, item: 3 }));
+        let file = made(Wish {
+            entries: Some(4_097),
+            ..wish.clone()
+        })
+        .bytes;
+        assert_eq!(
+            module(&file),
+            Err(Refusal {
+                number: LIMIT,
+                item: 3
+            })
+        );
 
-        let file = made(Wish { image: Some(16_777_216), ..wish.clone() }).bytes;
+        let file = made(Wish {
+            image: Some(16_777_216),
+            ..wish.clone()
+        })
+        .bytes;
         assert_eq!(module(&file).unwrap().data_image, 16_777_216);
-        let file = made(Wish { image: Some(16_777_217), ..wish.clone() }).bytes;
-        assert_eq!(module(&file), Err(Refusal { number: LIMIT, item: 4 }));
+        let file = made(Wish {
+            image: Some(16_777_217),
+            ..wish.clone()
+        })
+        .bytes;
+        assert_eq!(
+            module(&file),
+            Err(Refusal {
+                number: LIMIT,
+                item: 4
+            })
+        );
 
         let mut file = made(wish).bytes;
         file.resize(16_777_216, 0);
         assert!(module(&file).is_ok());
         file.push(0);
-        assert_eq!(module(&file), Err(Refusal { number: LIMIT, item: 0 }));
+        assert_eq!(
+            module(&file),
+            Err(Refusal {
+                number: LIMIT,
+                item: 0
+            })
+        );
     }
 }
 
 #[test]
 fn deleted_sections_are_not_examined() {
-    let mut made = made(Wish { kinds: vec![0xFFFF_FFFF], ..Wish::default() });
-    let n = made.flags.iter().position(|&flags| flags == 0xFFFF_FFFF).unwrap() as u64 + 1;
+    let mut made = made(Wish {
+        kinds: vec![0xFFFF_FFFF],
+        ..Wish::default()
+    });
+    let n = made
+        .flags
+        .iter()
+        .position(|&flags| flags == 0xFFFF_FFFF)
+        .unwrap() as u64
+        + 1;
     for part in [Part::Paddr, Part::Vaddr, Part::Size, Part::Pointer] {
         let field = made.section_field(n, part);
         made.put(field, u64::MAX);

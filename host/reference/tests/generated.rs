@@ -23,7 +23,11 @@ fn the_same_seed_gives_the_same_case() {
 fn made_modules_are_accepted_and_objects_open() {
     for seed in 0..SEEDS {
         let mut rng = Rng::new(seed);
-        let wish = Wish { rich: seed % 2 == 0, low: seed % 3 == 0, ..Wish::default() };
+        let wish = Wish {
+            rich: seed % 2 == 0,
+            low: seed % 3 == 0,
+            ..Wish::default()
+        };
         let made = make::module(&mut rng, &wish);
         let found = module(&made.bytes).expect("a made module");
         assert_eq!(found.data_image, made.image);
@@ -48,7 +52,13 @@ fn check_symbols(made: &Made) {
         let read = csect(&made.bytes, symbol.index);
         match symbol.csect {
             Some(kind) => assert_eq!(read.unwrap().kind, kind),
-            None => assert_eq!(read, Err(Refusal { number: CSECT, item: symbol.index })),
+            None => assert_eq!(
+                read,
+                Err(Refusal {
+                    number: CSECT,
+                    item: symbol.index
+                })
+            ),
         }
     }
 }
@@ -97,7 +107,10 @@ fn run_calls(file: &[u8], calls: &[Call], text: &[u8], data: &[u8]) -> Vec<(Vec<
             Call::Move(from, to) => move_images(file, from, to, &mut text, &mut data),
         };
         if result.is_err() {
-            assert!(text == old_text && data == old_data, "a refusal changed a byte");
+            assert!(
+                text == old_text && data == old_data,
+                "a refusal changed a byte"
+            );
         }
         all.push((text.clone(), data.clone()));
     }
@@ -116,7 +129,11 @@ fn the_book_equals_running_the_calls() {
                 }
                 let after = run_calls(&case.file, calls, text, data);
                 for n in 0..calls.len() {
-                    assert_eq!(book(&case.file, &calls[..=n], text, data), after[n], "seed {seed}");
+                    assert_eq!(
+                        book(&case.file, &calls[..=n], text, data),
+                        after[n],
+                        "seed {seed}"
+                    );
                 }
                 if let Some(last) = after.last() {
                     accepted += u64::from(last.0 != *text || last.1 != *data);
@@ -131,7 +148,13 @@ fn the_book_equals_running_the_calls() {
 fn chains_of_moves() {
     for seed in 0..SEEDS {
         let mut rng = Rng::new(seed);
-        let made = make::module(&mut rng, &Wish { rich: seed % 2 == 0, ..Wish::default() });
+        let made = make::module(
+            &mut rng,
+            &Wish {
+                rich: seed % 2 == 0,
+                ..Wish::default()
+            },
+        );
         let file = &made.bytes;
         let plans: Vec<Plan> = (0..3).map(|_| fitting_plan(&mut rng, &made)).collect();
         let (p, q, r) = (&plans[0], &plans[1], &plans[2]);
@@ -183,8 +206,16 @@ fn own_addresses_give_the_raw_bytes() {
     for seed in 0..SEEDS {
         let mut rng = Rng::new(seed);
         let made = make::module(&mut rng, &Wish::default());
-        let list = made.loader_symbols.iter().map(|symbol| symbol.value).collect();
-        let plan = Plan { text: made.text_address, data: made.data_address, list };
+        let list = made
+            .loader_symbols
+            .iter()
+            .map(|symbol| symbol.value)
+            .collect();
+        let plan = Plan {
+            text: made.text_address,
+            data: made.data_address,
+            list,
+        };
         let (mut text, mut data) = buffers(&mut rng, &made);
         build(&made.bytes, &plan, &mut text, &mut data).unwrap();
         let summary = open(&made.bytes).unwrap();
@@ -194,7 +225,9 @@ fn own_addresses_give_the_raw_bytes() {
         };
         assert_eq!(text, raw(made.text));
         assert_eq!(data[..made.data_size as usize], raw(made.data));
-        assert!(data[made.data_size as usize..].iter().all(|&byte| byte == 0));
+        assert!(data[made.data_size as usize..]
+            .iter()
+            .all(|&byte| byte == 0));
     }
 }
 
@@ -202,7 +235,13 @@ fn own_addresses_give_the_raw_bytes() {
 fn ignored_places_do_not_matter() {
     for seed in 0..SEEDS {
         let mut rng = Rng::new(seed);
-        let made = make::module(&mut rng, &Wish { rich: true, ..Wish::default() });
+        let made = make::module(
+            &mut rng,
+            &Wish {
+                rich: true,
+                ..Wish::default()
+            },
+        );
         let plan = fitting_plan(&mut rng, &made);
         let mut other = plan.clone();
         for (i, symbol) in made.loader_symbols.iter().enumerate() {
@@ -222,7 +261,11 @@ fn ignored_places_do_not_matter() {
 fn sheets_come_back() {
     for seed in 0..300 {
         let mut rng = Rng::new(seed);
-        let k = if seed == 0 { 4_096 } else { rng.below(20) as usize };
+        let k = if seed == 0 {
+            4_096
+        } else {
+            rng.below(20) as usize
+        };
         let list = damage::junk_list(&mut rng, k);
         let (text, data) = (rng.next(), rng.next());
         let mut sheet = rng.bytes(20 + 8 * k);
@@ -250,9 +293,19 @@ fn a_refusal_changes_no_byte() {
                         run_calls(&case.file, &[Call::Build(plan.clone())], text, data);
                     }
                 }
-                Op::Move { from, to, text, data } => {
+                Op::Move {
+                    from,
+                    to,
+                    text,
+                    data,
+                } => {
                     if data.len() < 1_000_000 {
-                        run_calls(&case.file, &[Call::Move(from.clone(), to.clone())], text, data);
+                        run_calls(
+                            &case.file,
+                            &[Call::Move(from.clone(), to.clone())],
+                            text,
+                            data,
+                        );
                     }
                 }
                 Op::ReadSheet { sheet, list } => {
@@ -261,7 +314,12 @@ fn a_refusal_changes_no_byte() {
                         assert_eq!(after, *list);
                     }
                 }
-                Op::WriteSheet { text, data, list, sheet } => {
+                Op::WriteSheet {
+                    text,
+                    data,
+                    list,
+                    sheet,
+                } => {
                     let mut after = sheet.clone();
                     if write_sheet(*text, *data, list, &mut after).is_err() {
                         assert_eq!(after, *sheet);

@@ -9,7 +9,11 @@ fn run(program: &str, variable: &str) {
     let path = std::env::var(variable).unwrap_or_else(|_| panic!("{variable} names no path"));
     let output = Command::new(program).arg(path).output().expect("it runs");
     print!("{}", String::from_utf8_lossy(&output.stdout));
-    assert!(output.status.success(), "{}", String::from_utf8_lossy(&output.stderr));
+    assert!(
+        output.status.success(),
+        "{}",
+        String::from_utf8_lossy(&output.stderr)
+    );
 }
 
 #[test]

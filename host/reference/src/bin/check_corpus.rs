@@ -11,7 +11,11 @@ use std::path::Path;
 /// The word after `key` as a number.
 fn after(words: &[&str], key: &str) -> Option<u64> {
     let at = words.iter().position(|&word| word == key)?;
-    let digits: String = words.get(at + 1)?.chars().take_while(char::is_ascii_digit).collect();
+    let digits: String = words
+        .get(at + 1)?
+        .chars()
+        .take_while(char::is_ascii_digit)
+        .collect();
     digits.parse().ok()
 }
 
@@ -84,11 +88,26 @@ fn check_verdict(check: &mut Check, line: &str, file: &[u8]) {
     let walked = walk(file).expect("it opened");
     match symbols.iter().position(|&word| word == "alone:") {
         Some(at) => {
-            check.same(name, "walked", walked.visited.to_string(), symbols[at + 1].to_string());
-            check.same(name, "walk's end", walked.refusal, refusal_at(&symbols[at + 4..]));
+            check.same(
+                name,
+                "walked",
+                walked.visited.to_string(),
+                symbols[at + 1].to_string(),
+            );
+            check.same(
+                name,
+                "walk's end",
+                walked.refusal,
+                refusal_at(&symbols[at + 4..]),
+            );
         }
         None => {
-            check.same(name, "walked", Some(walked.visited), after(&symbols, "syms"));
+            check.same(
+                name,
+                "walked",
+                Some(walked.visited),
+                after(&symbols, "syms"),
+            );
             check.same(name, "walk's end", walked.refusal, None);
             check.same(name, "walk's index", walked.end, summary.symbols);
         }
@@ -116,22 +135,57 @@ fn check_verdict(check: &mut Check, line: &str, file: &[u8]) {
         }
     }
     let entries = relocations(file).expect("an accepted module");
-    let in_text = entries.iter().filter(|entry| entry.section == m.text).count() as u64;
+    let in_text = entries
+        .iter()
+        .filter(|entry| entry.section == m.text)
+        .count() as u64;
     let mut types: BTreeMap<u64, u64> = BTreeMap::new();
     for entry in &entries {
         *types.entry(entry.kind).or_insert(0) += 1;
     }
-    let types: Vec<String> = types.iter().map(|(kind, n)| format!("{kind:04x}:{n}")).collect();
-    let gap = if m.bss_size == 0 { 0 } else { m.bss_address - m.data_address - m.data_size };
-    check.same(name, "loader symbols", Some(m.loader_symbols), after(&words, "lsym"));
+    let types: Vec<String> = types
+        .iter()
+        .map(|(kind, n)| format!("{kind:04x}:{n}"))
+        .collect();
+    let gap = if m.bss_size == 0 {
+        0
+    } else {
+        m.bss_address - m.data_address - m.data_size
+    };
+    check.same(
+        name,
+        "loader symbols",
+        Some(m.loader_symbols),
+        after(&words, "lsym"),
+    );
     check.same(name, "imports", Some(imports), after(&words, "imp"));
     check.same(name, "deferred", Some(deferred), after(&words, "def"));
     check.same(name, "ids", Some(m.import_ids), after(&words, "ids"));
     check.same(name, "entries", Some(m.relocations), after(&words, "lrel"));
-    check.same(name, "entries in text", true, line.contains(&format!("(text {in_text}) ")));
-    check.same(name, "types", true, line.contains(&format!(" {} ent ", types.join(","))));
-    check.same(name, "entry section", Some(m.entry_section), after(&words, "ent"));
-    check.same(name, "TOC section", Some(m.toc_section), after(&words, "toc"));
+    check.same(
+        name,
+        "entries in text",
+        true,
+        line.contains(&format!("(text {in_text}) ")),
+    );
+    check.same(
+        name,
+        "types",
+        true,
+        line.contains(&format!(" {} ent ", types.join(","))),
+    );
+    check.same(
+        name,
+        "entry section",
+        Some(m.entry_section),
+        after(&words, "ent"),
+    );
+    check.same(
+        name,
+        "TOC section",
+        Some(m.toc_section),
+        after(&words, "toc"),
+    );
     check.same(name, "bss", Some(m.bss_size), after(&words[4..], "bss"));
     check.same(name, "gap", Some(gap), after(&words, "gap"));
 }
@@ -153,7 +207,11 @@ fn own_images(file: &[u8], m: &Module) -> (Vec<u8>, Vec<u8>) {
 fn plan_at(of: &[u8], m: &Module) -> Plan {
     let symbols = loader_symbols(of).expect("an accepted module");
     let list = symbols.iter().map(|symbol| symbol.value).collect();
-    Plan { text: m.text_address, data: m.data_address, list }
+    Plan {
+        text: m.text_address,
+        data: m.data_address,
+        list,
+    }
 }
 
 fn own_places(m: &Module) -> Reached {
@@ -196,7 +254,11 @@ fn check_pair(check: &mut Check, name: &str, a: &[u8], b: &[u8]) {
     let there = move_images(a, &from, &to, &mut text, &mut data);
     check.same(name, "moved", there, Ok(own_places(&mb)));
     check.same(name, "data moved", &data, &data_b);
-    let calls = [Call::Build(to.clone()), Call::Move(to.clone(), from.clone()), Call::Move(from, to)];
+    let calls = [
+        Call::Build(to.clone()),
+        Call::Move(to.clone(), from.clone()),
+        Call::Move(from, to),
+    ];
     let (book_text, book_data) = book(a, &calls, &vec![1; text.len()], &vec![2; data.len()]);
     check.same(name, "book", (&book_text, &book_data), (&text, &data));
 }
@@ -204,7 +266,10 @@ fn check_pair(check: &mut Check, name: &str, a: &[u8], b: &[u8]) {
 fn main() {
     let folder = std::env::args().nth(1).expect("the corpus folder");
     let folder = Path::new(&folder);
-    let mut check = Check { facts: 0, differences: 0 };
+    let mut check = Check {
+        facts: 0,
+        differences: 0,
+    };
 
     let verdicts = fs::read_to_string(folder.join("verdicts.txt")).expect("verdicts.txt");
     let mut files = 0;
@@ -221,7 +286,13 @@ fn main() {
 
     let mut names: Vec<String> = fs::read_dir(folder.join("pairs"))
         .expect("pairs")
-        .map(|entry| entry.expect("an entry").file_name().into_string().expect("a name"))
+        .map(|entry| {
+            entry
+                .expect("an entry")
+                .file_name()
+                .into_string()
+                .expect("a name")
+        })
         .filter(|name| name.contains(".a-"))
         .collect();
     names.sort();

@@ -155,7 +155,9 @@ impl Json {
     fn bytes(&self) -> Vec<u8> {
         let text = self.text().as_bytes();
         let digit = |byte: u8| (byte as char).to_digit(16).expect("hex") as u8;
-        text.chunks(2).map(|pair| digit(pair[0]) * 16 + digit(pair[1])).collect()
+        text.chunks(2)
+            .map(|pair| digit(pair[0]) * 16 + digit(pair[1]))
+            .collect()
     }
 }
 
@@ -168,11 +170,18 @@ fn hex(bytes: &[u8]) -> Json {
 }
 
 fn object(all: Vec<(&str, Json)>) -> Json {
-    Json::Object(all.into_iter().map(|(key, value)| (key.to_string(), value)).collect())
+    Json::Object(
+        all.into_iter()
+            .map(|(key, value)| (key.to_string(), value))
+            .collect(),
+    )
 }
 
 fn refused(refusal: Refusal) -> Json {
-    object(vec![("refused", Json::List(vec![num(refusal.number), num(refusal.item), num(0)]))])
+    object(vec![(
+        "refused",
+        Json::List(vec![num(refusal.number), num(refusal.item), num(0)]),
+    )])
 }
 
 fn given(result: Result<Json, Refusal>) -> Json {
@@ -202,7 +211,10 @@ fn section_json(file: &[u8], n: u64, section: &Section) -> Json {
         ("size", num(section.size)),
         ("scnptr", num(section.scnptr)),
         ("flags", num(section.whole_flags)),
-        ("kind", Json::Text(opening::kind_word(section.flags).to_string())),
+        (
+            "kind",
+            Json::Text(opening::kind_word(section.flags).to_string()),
+        ),
         ("has_raw", Json::Bool(section.raw.is_some())),
     ])
 }
@@ -291,7 +303,10 @@ fn reached_json(reached: Reached) -> Json {
         Some(address) => num(address),
         None => Json::Null,
     };
-    object(vec![("entry", one(reached.entry)), ("toc", one(reached.toc))])
+    object(vec![
+        ("entry", one(reached.entry)),
+        ("toc", one(reached.toc)),
+    ])
 }
 
 fn plan(json: &Json) -> Plan {
@@ -323,10 +338,12 @@ fn answer(case: &Json) -> Json {
     };
     let alone = |answer: Json| object(vec![("answer", answer)]);
     match case.get("op").text() {
-        "open" => alone(given(open(file).map(|summary| summary_json(file, &summary)))),
-        "section" => {
-            alone(given(section(file, index()).map(|found| section_json(file, index(), &found))))
-        }
+        "open" => alone(given(
+            open(file).map(|summary| summary_json(file, &summary)),
+        )),
+        "section" => alone(given(
+            section(file, index()).map(|found| section_json(file, index(), &found)),
+        )),
         "symbol" => {
             let found = symbol(file, index());
             assert_eq!(
@@ -368,7 +385,11 @@ fn answer(case: &Json) -> Json {
             alone(given(found.map(|entry| loader_symbol_json(file, &entry))))
         }
         "import_id" => {
-            let all = [import_path(file, index()), import_base(file, index()), import_member(file, index())];
+            let all = [
+                import_path(file, index()),
+                import_base(file, index()),
+                import_member(file, index()),
+            ];
             let mut strings = Vec::new();
             for one in all {
                 match one {
@@ -418,9 +439,9 @@ fn answer(case: &Json) -> Json {
         "sheet_read" => {
             let mut list = case.get("list").numbers();
             let result = read_sheet(&case.get("sheet").bytes(), &mut list);
-            let answer = given(result.map(|(text, data)| {
-                object(vec![("text", num(text)), ("data", num(data))])
-            }));
+            let answer = given(
+                result.map(|(text, data)| object(vec![("text", num(text)), ("data", num(data))])),
+            );
             let list = list.into_iter().map(num).collect();
             object(vec![("answer", answer), ("list", Json::List(list))])
         }
@@ -429,7 +450,10 @@ fn answer(case: &Json) -> Json {
             let plan = plan(case.get("plan"));
             let result = write_sheet(plan.text, plan.data, &plan.list, &mut sheet);
             let answer = given(result.map(|()| Json::Null));
-            object(vec![("answer", answer), ("buffers", object(vec![("sheet", hex(&sheet))]))])
+            object(vec![
+                ("answer", answer),
+                ("buffers", object(vec![("sheet", hex(&sheet))])),
+            ])
         }
         "list" => alone(Json::Text(list_headers(file))),
         other => panic!("operation {other}"),
@@ -475,10 +499,14 @@ fn difference(mine: &Json, theirs: &Json, path: &str) -> Option<String> {
 }
 
 fn main() {
-    let path = std::env::args().nth(1).expect("a path, or - for standard input");
+    let path = std::env::args()
+        .nth(1)
+        .expect("a path, or - for standard input");
     let mut text = String::new();
     if path == "-" {
-        std::io::stdin().read_to_string(&mut text).expect("readable input");
+        std::io::stdin()
+            .read_to_string(&mut text)
+            .expect("readable input");
     } else {
         text = std::fs::read_to_string(&path).expect("a readable file");
     }
@@ -486,10 +514,16 @@ fn main() {
     let mut refusals: BTreeMap<u64, u64> = BTreeMap::new();
     let mut differences = 0;
     for (i, line) in text.lines().enumerate() {
-        let case = Parser { text: line.as_bytes(), at: 0 }.value();
+        let case = Parser {
+            text: line.as_bytes(),
+            at: 0,
+        }
+        .value();
         let mine = answer(&case);
         let found = difference(&mine, case.get("expect"), "expect");
-        let entry = counts.entry(case.get("op").text().to_string()).or_insert((0, 0));
+        let entry = counts
+            .entry(case.get("op").text().to_string())
+            .or_insert((0, 0));
         entry.0 += 1;
         if let Json::List(refusal) = mine.get("answer").get("refused") {
             *refusals.entry(refusal[0].number()).or_insert(0) += 1;
@@ -497,7 +531,11 @@ fn main() {
         if let Some(found) = found {
             entry.1 += 1;
             differences += 1;
-            println!("line {} ({}): {found:.400}", i + 1, case.get("label").text());
+            println!(
+                "line {} ({}): {found:.400}",
+                i + 1,
+                case.get("label").text()
+            );
         }
     }
     println!("{:<16} {:>6} {:>12}", "operation", "cases", "differences");

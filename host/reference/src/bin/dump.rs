@@ -12,58 +12,8 @@
 //! 4,096 bytes are shown by length and sum only.
 #![forbid(unsafe_code)]
 
-use reference::answer::{hex, run};
-use reference::generate::{case, Op};
-use reference::{Call, Plan};
-
-fn plan_text(plan: &Plan) -> String {
-    format!("{:x},{:x},{}", plan.text, plan.data, list_text(&plan.list))
-}
-
-fn list_text(list: &[u64]) -> String {
-    let all: Vec<String> = list.iter().map(|address| format!("{address:x}")).collect();
-    format!("[{}]", all.join(","))
-}
-
-fn arguments(op: &Op) -> String {
-    match op {
-        Op::Open | Op::Walk | Op::Module | Op::Relocations | Op::List => String::new(),
-        Op::Section(n)
-        | Op::SectionName(n)
-        | Op::Symbol(n)
-        | Op::SymbolName(n)
-        | Op::Csect(n)
-        | Op::LoaderSymbol(n)
-        | Op::LoaderSymbolName(n)
-        | Op::ImportPath(n)
-        | Op::ImportBase(n)
-        | Op::ImportMember(n) => n.to_string(),
-        Op::Build { plan, text, data } => {
-            format!("{} text={} data={}", plan_text(plan), hex(text), hex(data))
-        }
-        Op::Move { from, to, text, data } => format!(
-            "{} {} text={} data={}",
-            plan_text(from),
-            plan_text(to),
-            hex(text),
-            hex(data)
-        ),
-        Op::Calls { calls, text, data } => {
-            let all: Vec<String> = calls
-                .iter()
-                .map(|call| match call {
-                    Call::Build(plan) => format!("build {}", plan_text(plan)),
-                    Call::Move(from, to) => format!("move {} {}", plan_text(from), plan_text(to)),
-                })
-                .collect();
-            format!("text={} data={} {}", hex(text), hex(data), all.join(" / "))
-        }
-        Op::ReadSheet { sheet, list } => format!("{} {}", hex(sheet), list_text(list)),
-        Op::WriteSheet { text, data, list, sheet } => {
-            format!("{text:x},{data:x},{} {}", list_text(list), hex(sheet))
-        }
-    }
-}
+use reference::answer::{arguments, run};
+use reference::generate::case;
 
 fn file_text(file: &[u8]) -> String {
     let zeros = file.iter().rev().take_while(|&&byte| byte == 0).count();

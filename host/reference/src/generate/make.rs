@@ -3,8 +3,7 @@
 use super::rng::Rng;
 use crate::bytes::{by, number, put};
 use crate::opening::{
-    BSS, DATA, DEBUG, DELETED, DWARF, EXCEPT, INFO, KINDS, LOADER, OVRFLO, PAD, TBSS, TEXT,
-    TYPCHK,
+    BSS, DATA, DEBUG, DELETED, DWARF, EXCEPT, INFO, KINDS, LOADER, OVRFLO, PAD, TBSS, TEXT, TYPCHK,
 };
 use crate::symbols::{CM, ER, LD, SD};
 
@@ -23,8 +22,12 @@ pub struct Wish {
     pub opthdr: Option<usize>,
     /// Sections in all.
     pub sections: Option<usize>,
+    /// Symbol entries, auxiliaries not counted.
+    pub symbols: Option<usize>,
     pub loader_symbols: Option<usize>,
     pub entries: Option<usize>,
+    /// Text and data of some thousand bytes.
+    pub large: bool,
     /// Length of the whole data image, reached by bss.
     pub image: Option<u64>,
     /// Further sections of these kinds.
@@ -212,11 +215,17 @@ impl Made {
     }
 
     pub fn symptr_field(&self) -> Field {
-        Field { at: 8, length: self.word() }
+        Field {
+            at: 8,
+            length: self.word(),
+        }
     }
 
     pub fn nsyms_field(&self) -> Field {
-        Field { at: by(self.bits, 12, 20), length: 4 }
+        Field {
+            at: by(self.bits, 12, 20),
+            length: 4,
+        }
     }
 
     pub fn opthdr_field(&self) -> Field {
@@ -235,17 +244,26 @@ impl Made {
             Part::Pointer => (by(self.bits, 20, 32), self.word()),
             Part::Flags => (by(self.bits, 36, 64), 4),
         };
-        Field { at: self.section_at(n) + at, length }
+        Field {
+            at: self.section_at(n) + at,
+            length,
+        }
     }
 
     pub fn aux(&self, aux: Aux) -> Field {
         let field = aux_field(self.bits, aux);
-        Field { at: self.header() + field.at, length: field.length }
+        Field {
+            at: self.header() + field.at,
+            length: field.length,
+        }
     }
 
     pub fn head(&self, head: Head) -> Option<Field> {
         let field = head_field(self.bits, head)?;
-        Some(Field { at: self.loader_at + field.at, length: field.length })
+        Some(Field {
+            at: self.loader_at + field.at,
+            length: field.length,
+        })
     }
 
     pub fn symbol_at(&self, index: u64) -> usize {
@@ -254,7 +272,10 @@ impl Made {
 
     /// The name offset of a symbol entry.
     pub fn name_offset_field(&self, index: u64) -> Field {
-        Field { at: self.symbol_at(index) + by(self.bits, 4, 8), length: 4 }
+        Field {
+            at: self.symbol_at(index) + by(self.bits, 4, 8),
+            length: 4,
+        }
     }
 
     /// Makes the entry's name a string of the table at this offset.
@@ -281,7 +302,11 @@ impl Made {
     }
 
     pub fn loader_name_offset(&self, i: usize) -> usize {
-        number(&self.bytes, self.loader_symbol_at(i) + by(self.bits, 4, 8), 4) as usize
+        number(
+            &self.bytes,
+            self.loader_symbol_at(i) + by(self.bits, 4, 8),
+            4,
+        ) as usize
     }
 
     pub fn entry_at(&self, i: usize) -> usize {
@@ -289,19 +314,31 @@ impl Made {
     }
 
     pub fn entry_address_field(&self, i: usize) -> Field {
-        Field { at: self.entry_at(i), length: self.word() }
+        Field {
+            at: self.entry_at(i),
+            length: self.word(),
+        }
     }
 
     pub fn entry_symbol_field(&self, i: usize) -> Field {
-        Field { at: self.entry_at(i) + by(self.bits, 4, 12), length: 4 }
+        Field {
+            at: self.entry_at(i) + by(self.bits, 4, 12),
+            length: 4,
+        }
     }
 
     pub fn entry_type_field(&self, i: usize) -> Field {
-        Field { at: self.entry_at(i) + 8, length: 2 }
+        Field {
+            at: self.entry_at(i) + 8,
+            length: 2,
+        }
     }
 
     pub fn entry_section_field(&self, i: usize) -> Field {
-        Field { at: self.entry_at(i) + 10, length: 2 }
+        Field {
+            at: self.entry_at(i) + 10,
+            length: 2,
+        }
     }
 }
 
@@ -377,12 +414,31 @@ pub fn module(rng: &mut Rng, wish: &Wish) -> Made {
     let rich = wish.rich;
 
     // Sizes.
-    let mut text_size = if !rich && rng.chance(20) { 0 } else { rng.between(if rich { 40 } else { 1 }, 90) };
-    let mut data_size = if !rich && rng.chance(15) { 0 } else { rng.between(if rich { 40 } else { 1 }, 100) };
-    let mut bss_size = if !rich && rng.chance(35) { 0 } else { rng.between(1, 64) };
-    let mut gap = if rng.chance(60) { 0 } else { rng.between(1, 40) };
+    let mut text_size = if !rich && rng.chance(20) {
+        0
+    } else {
+        rng.between(if rich { 40 } else { 1 }, 90)
+    };
+    let mut data_size = if !rich && rng.chance(15) {
+        0
+    } else {
+        rng.between(if rich { 40 } else { 1 }, 100)
+    };
+    let mut bss_size = if !rich && rng.chance(35) {
+        0
+    } else {
+        rng.between(1, 64)
+    };
+    let mut gap = if rng.chance(60) {
+        0
+    } else {
+        rng.between(1, 40)
+    };
     if wish.empty {
         (text_size, data_size, bss_size) = (0, 0, 0);
+    }
+    if wish.large {
+        (text_size, data_size) = (rng.between(1_000, 4_000), rng.between(1_000, 4_000));
     }
     if let Some(image) = wish.image {
         if rng.chance(50) {
@@ -393,7 +449,11 @@ pub fn module(rng: &mut Rng, wish: &Wish) -> Made {
             gap = image - data_size - bss_size;
         }
     }
-    let image = if bss_size == 0 { data_size } else { data_size + gap + bss_size };
+    let image = if bss_size == 0 {
+        data_size
+    } else {
+        data_size + gap + bss_size
+    };
 
     // Addresses.
     let mut text_address = fitting_address(rng, bits, text_size);
@@ -486,7 +546,11 @@ pub fn module(rng: &mut Rng, wish: &Wish) -> Made {
         None => by(bits, 72, 110) + rng.below(20) as usize,
     };
     let full = opthdr.max(by(bits, 72, 110));
-    let mut aux = if rng.chance(50) { rng.bytes(full) } else { vec![0; full] };
+    let mut aux = if rng.chance(50) {
+        rng.bytes(full)
+    } else {
+        vec![0; full]
+    };
     let mut set = |which: Aux, value: u64| {
         let field = aux_field(bits, which);
         put(&mut aux, field.at, field.length, value);
@@ -503,7 +567,11 @@ pub fn module(rng: &mut Rng, wish: &Wish) -> Made {
     for (section, address) in [(Aux::EntrySection, Aux::Entry), (Aux::TocSection, Aux::Toc)] {
         let number = rng.pick(&[0, numbers[0], numbers[1]]);
         set(section, number);
-        let inside = if number == numbers[0] { text_address } else { data_address };
+        let inside = if number == numbers[0] {
+            text_address
+        } else {
+            data_address
+        };
         let value = match rng.below(4) {
             0 => rng.next(),
             1 => u64::MAX,
@@ -515,7 +583,7 @@ pub fn module(rng: &mut Rng, wish: &Wish) -> Made {
 
     // Symbols.
     let symbols = if rich || rng.chance(60) {
-        Some(symbol_block(rng, bits, kinds.len() as u64, rich, wish.symbols_last))
+        Some(symbol_block(rng, bits, kinds.len() as u64, wish))
     } else {
         None
     };
@@ -582,14 +650,36 @@ pub fn module(rng: &mut Rng, wish: &Wish) -> Made {
         }
         for i in 0..made.loader_symbols.len().min(16) {
             let at = made.loader_symbol_at(i);
-            for (offset, length) in [(0, 8), (8, 4), (12, 2), (14, 1), (16, 4), (20, 4)] {
-                made.fields.push(Field { at: at + offset, length });
+            for (offset, length) in [
+                (0, 4),
+                (0, 8),
+                (4, 4),
+                (8, 4),
+                (12, 2),
+                (14, 1),
+                (16, 4),
+                (20, 4),
+            ] {
+                made.fields.push(Field {
+                    at: at + offset,
+                    length,
+                });
+            }
+            if made.loader_symbols[i].string {
+                let length_at = made.loader_strings_at + made.loader_name_offset(i) - 2;
+                made.fields.push(Field {
+                    at: length_at,
+                    length: 2,
+                });
             }
         }
         for i in 0..made.entries.len().min(16) {
             let at = made.entry_at(i);
             for (offset, length) in [(0, word), (by(bits, 4, 12), 4), (8, 2), (10, 2)] {
-                made.fields.push(Field { at: at + offset, length });
+                made.fields.push(Field {
+                    at: at + offset,
+                    length,
+                });
             }
         }
     }
@@ -627,7 +717,7 @@ pub fn object(rng: &mut Rng, wish: &Wish) -> Made {
     };
     let aux = rng.bytes(opthdr);
     let symbols = if wish.rich || rng.chance(85) {
-        Some(symbol_block(rng, bits, count, wish.rich, wish.symbols_last))
+        Some(symbol_block(rng, bits, count, wish))
     } else {
         None
     };
@@ -660,14 +750,19 @@ fn other_piece(rng: &mut Rng, bits: u64, kind: u64) -> Piece {
         // No raw data: any size.
         piece.size = junk(rng);
     } else {
-        piece.size = if rng.chance(15) { 0 } else { rng.between(1, 24) };
+        piece.size = if rng.chance(15) {
+            0
+        } else {
+            rng.between(1, 24)
+        };
         piece.raw = Some(rng.bytes(piece.size as usize));
     }
     piece
 }
 
 /// Symbol entries, csects and a string table.
-fn symbol_block(rng: &mut Rng, bits: u64, sections: u64, rich: bool, last: bool) -> SymbolBlock {
+fn symbol_block(rng: &mut Rng, bits: u64, sections: u64, wish: &Wish) -> SymbolBlock {
+    let (rich, last) = (wish.rich, wish.symbols_last);
     // The pool of strings.
     let with_strings = rich || rng.chance(75);
     let mut strings = vec![0u8; 4];
@@ -695,9 +790,17 @@ fn symbol_block(rng: &mut Rng, bits: u64, sections: u64, rich: bool, last: bool)
     let mut symbols: Vec<MadeSymbol> = Vec::new();
     let mut wanted = Vec::new();
     if rich {
-        wanted = vec![Some(SD), Some(ER), Some(CM), Some(LD), None, Some(SD), Some(LD)];
+        wanted = vec![
+            Some(SD),
+            Some(ER),
+            Some(CM),
+            Some(LD),
+            None,
+            Some(SD),
+            Some(LD),
+        ];
     } else {
-        for _ in 0..rng.between(1, 9) {
+        for _ in 0..wish.symbols.unwrap_or(rng.between(1, 9) as usize) {
             wanted.push(match rng.below(7) {
                 0 => Some(ER),
                 1 | 2 => Some(SD),
@@ -722,13 +825,18 @@ fn symbol_block(rng: &mut Rng, bits: u64, sections: u64, rich: bool, last: bool)
             None => rng.pick(&[0u64, 3, 103, 103, 104, 108, 0x80, 0x8E, 255]),
         };
         let auxiliaries = match csect {
+            _ if wish.symbols.is_some() && rng.chance(1) => rng.between(4, 255),
             Some(_) => rng.pick(&[1u64, 1, 1, 2, 3]),
             None => rng.pick(&[0u64, 0, 1, 2]),
         };
         let mut entry = rng.bytes(18);
         // The name.
         let name_at = by(bits, 0, 8);
-        let offset = if offsets.is_empty() || rng.chance(10) { 0 } else { rng.pick(&offsets) };
+        let offset = if offsets.is_empty() || rng.chance(10) {
+            0
+        } else {
+            rng.pick(&offsets)
+        };
         if bits == 32 {
             if rng.chance(50) {
                 put(&mut entry, name_at, 4, 0);
@@ -779,7 +887,12 @@ fn symbol_block(rng: &mut Rng, bits: u64, sections: u64, rich: bool, last: bool)
             }
             bytes.extend_from_slice(&aux);
         }
-        symbols.push(MadeSymbol { index, class, auxiliaries, csect });
+        symbols.push(MadeSymbol {
+            index,
+            class,
+            auxiliaries,
+            csect,
+        });
     }
 
     let count = bytes.len() as u64 / 18;
@@ -797,7 +910,13 @@ fn symbol_block(rng: &mut Rng, bits: u64, sections: u64, rich: bool, last: bool)
             _ => Vec::new(),
         }
     };
-    SymbolBlock { bytes, count, symbols, tail, strings_length }
+    SymbolBlock {
+        bytes,
+        count,
+        symbols,
+        tail,
+        strings_length,
+    }
 }
 
 /// Puts headers, raw data and symbols together.
@@ -821,7 +940,12 @@ fn assemble(
     made.bytes = if junky { rng.bytes(end) } else { vec![0; end] };
     let header = made.header();
     made.bytes[header..header + aux.len()].copy_from_slice(&aux);
-    put(&mut made.bytes, 0, 2, if bits == 32 { 0x01DF } else { 0x01F7 });
+    put(
+        &mut made.bytes,
+        0,
+        2,
+        if bits == 32 { 0x01DF } else { 0x01F7 },
+    );
     put(&mut made.bytes, 2, 2, pieces.len() as u64);
     put(&mut made.bytes, 16, 2, aux.len() as u64);
 
@@ -889,7 +1013,11 @@ fn assemble(
             name = rng.bytes(8);
         }
         made.bytes[at..at + 8].copy_from_slice(&name);
-        let pointer = if piece.raw.is_some() { pointers[i] } else { piece.pointer };
+        let pointer = if piece.raw.is_some() {
+            pointers[i]
+        } else {
+            piece.pointer
+        };
         for (part, value) in [
             (Part::Paddr, piece.paddr),
             (Part::Vaddr, piece.vaddr),
@@ -914,12 +1042,31 @@ fn assemble(
             made.symbols = block.symbols;
             for i in 0..made.symbol_count.min(24) {
                 let at = made.symbol_at(i);
-                for (offset, length) in [(0, 8), (4, 4), (8, 4), (12, 2), (16, 1), (17, 1)] {
-                    made.fields.push(Field { at: at + offset, length });
+                let parts = [
+                    (0, 4),
+                    (0, 8),
+                    (4, 4),
+                    (8, 4),
+                    (10, 1),
+                    (11, 1),
+                    (12, 2),
+                    (12, 4),
+                    (14, 2),
+                    (16, 1),
+                    (17, 1),
+                ];
+                for (offset, length) in parts {
+                    made.fields.push(Field {
+                        at: at + offset,
+                        length,
+                    });
                 }
             }
             if !block.tail.is_empty() {
-                made.fields.push(Field { at: made.strings_at, length: 4 });
+                made.fields.push(Field {
+                    at: made.strings_at,
+                    length: 4,
+                });
             }
         }
         None => {
@@ -929,7 +1076,10 @@ fn assemble(
         }
     }
     made.fields.push(Field { at: 2, length: 2 });
-    made.fields.push(Field { at: 8, length: word });
+    made.fields.push(Field {
+        at: 8,
+        length: word,
+    });
     made.fields.push(nsyms);
     made.fields.push(Field { at: 16, length: 2 });
     made.fields.push(Field { at: 18, length: 2 });
@@ -959,7 +1109,12 @@ fn slots(rng: &mut Rng, bits: u64, section: u64, address: u64, size: u64) -> Vec
         if at + width / 8 > size {
             break;
         }
-        all.push(MadeEntry { address: address + at, width, section, symbol: 0 });
+        all.push(MadeEntry {
+            address: address + at,
+            width,
+            section,
+            symbol: 0,
+        });
         at += width / 8 + rng.pick(&[0, 0, 0, 1, 2, 5, 8]);
     }
     // Sometimes the last field ends with the section.
@@ -981,7 +1136,11 @@ fn loader_section(
     let rich = wish.rich;
 
     // Import ids: three strings each, perhaps more.
-    let ids = if rich { rng.between(2, 4) } else { rng.between(0, 3) };
+    let ids = if rich {
+        rng.between(2, 4)
+    } else {
+        rng.between(0, 3)
+    };
     let mut id_table = Vec::new();
     for _ in 0..3 * ids {
         let length = rng.pick(&[0usize, 1, 3, 8, 12]);
@@ -1008,7 +1167,11 @@ fn loader_section(
     let mut symbol_table = Vec::new();
     for i in 0..count {
         let mut imported = rng.chance(55);
-        let mut file_id = if ids > 1 && rng.chance(75) { rng.between(1, ids - 1) } else { 0 };
+        let mut file_id = if ids > 1 && rng.chance(75) {
+            rng.between(1, ids - 1)
+        } else {
+            0
+        };
         let mut number = rng.pick(&numbers);
         if rich && i < 4 {
             imported = i < 2;
@@ -1035,7 +1198,9 @@ fn loader_section(
             put(&mut entry, 0, 8, value);
         }
         if string {
-            if count < 100 || strings.len() < 8 {
+            // One string for several symbols at times.
+            let shared = !rich && last_string != 0 && rng.chance(15);
+            if !shared && (count < 100 || strings.len() < 8) {
                 if rng.chance(20) {
                     strings.push(b'?');
                 }
@@ -1067,7 +1232,12 @@ fn loader_section(
         put(&mut entry, 14, 1, kind);
         put(&mut entry, 16, 4, file_id);
         symbol_table.extend_from_slice(&entry);
-        symbols.push(MadeLoaderSymbol { imported, file_id, string, value });
+        symbols.push(MadeLoaderSymbol {
+            imported,
+            file_id,
+            string,
+            value,
+        });
     }
 
     // Relocation entries on fields of text and data, several on one at times.
@@ -1091,7 +1261,11 @@ fn loader_section(
     let mut entries = Vec::new();
     let mut entry_table = Vec::new();
     for i in 0..entry_count {
-        let mut made = if i < free.len() { free[i].clone() } else { rng.pick(&free) };
+        let mut made = if i < free.len() {
+            free[i].clone()
+        } else {
+            rng.pick(&free)
+        };
         made.symbol = rng.below(3 + count as u64);
         let low = rng.pick(&[0x00u64, 0x00, 0x0C, 0x0D, 0x01, 0x01]);
         let kind = (rng.below(4) << 14) | ((made.width - 1) << 8) | low;

@@ -54,7 +54,10 @@ pub fn past_end(rng: &mut Rng, bits: u64, size: u64) -> Option<u64> {
 /// Buffers of the right lengths with any contents.
 pub fn buffers(rng: &mut Rng, made: &Made) -> (Vec<u8>, Vec<u8>) {
     let image = made.image.min(crate::IMAGE_LIMIT);
-    (rng.bytes(made.text_size as usize), rng.bytes(image as usize))
+    (
+        rng.bytes(made.text_size as usize),
+        rng.bytes(image as usize),
+    )
 }
 
 /// Buffers of lengths that are right most times.
@@ -93,15 +96,26 @@ pub fn any_plan(rng: &mut Rng, made: &Made) -> Plan {
 
 /// Builds and moves, most of them chained, some from a plan never reached.
 pub fn call_list(rng: &mut Rng, made: &Made) -> Vec<Call> {
-    let plans: Vec<Plan> = (0..rng.between(2, 4)).map(|_| any_plan(rng, made)).collect();
+    let plans: Vec<Plan> = (0..rng.between(2, 4))
+        .map(|_| any_plan(rng, made))
+        .collect();
     let mut calls = Vec::new();
     let mut last = rng.pick(&plans);
-    for i in 0..rng.between(1, 7) {
+    let length = if rng.chance(5) {
+        rng.between(8, 40)
+    } else {
+        rng.between(1, 7)
+    };
+    for i in 0..length {
         let to = rng.pick(&plans);
         if rng.chance(if i == 0 { 60 } else { 15 }) {
             calls.push(Call::Build(to.clone()));
         } else {
-            let from = if rng.chance(75) { last } else { rng.pick(&plans) };
+            let from = if rng.chance(75) {
+                last
+            } else {
+                rng.pick(&plans)
+            };
             calls.push(Call::Move(from, to.clone()));
         }
         last = to;
@@ -113,9 +127,22 @@ pub fn call_list(rng: &mut Rng, made: &Made) -> Vec<Call> {
 pub fn image_op(rng: &mut Rng, made: &Made) -> Op {
     let (text, data) = any_buffers(rng, made);
     match rng.below(4) {
-        0 => Op::Build { plan: any_plan(rng, made), text, data },
-        1 => Op::Move { from: any_plan(rng, made), to: any_plan(rng, made), text, data },
-        _ => Op::Calls { calls: call_list(rng, made), text, data },
+        0 => Op::Build {
+            plan: any_plan(rng, made),
+            text,
+            data,
+        },
+        1 => Op::Move {
+            from: any_plan(rng, made),
+            to: any_plan(rng, made),
+            text,
+            data,
+        },
+        _ => Op::Calls {
+            calls: call_list(rng, made),
+            text,
+            data,
+        },
     }
 }
 
@@ -124,7 +151,22 @@ pub fn near(rng: &mut Rng, first: u64, count: u64) -> u64 {
     if count > 0 && rng.chance(80) {
         return first + rng.below(count);
     }
-    rng.pick(&[0, first, first + count, first + count + 1, 1 << 32, u64::MAX])
+    // Among them numbers that come back into the table when multiplied by the
+    // length of an entry and cut to 64 bits.
+    let wraps = [16, 18, 24, 40, 72].map(|each| u64::MAX / each + 1 + first);
+    let ends = [
+        0xFFFF_FFFF,
+        1 << 32,
+        (1 << 32) + first,
+        1 << 63,
+        u64::MAX - 1,
+        u64::MAX,
+    ];
+    match rng.below(3) {
+        0 => rng.pick(&wraps),
+        1 => rng.pick(&ends),
+        _ => rng.pick(&[0, first.saturating_sub(1), first + count, first + count + 1]),
+    }
 }
 
 /// An operation that gives a refusal of opening.
@@ -136,26 +178,38 @@ pub fn reveal_open(rng: &mut Rng, made: &Made) -> Op {
         3 => Op::SymbolName(near(rng, 0, made.symbol_count)),
         4 => Op::Csect(near(rng, 0, made.symbol_count)),
         5 => Op::Walk,
+        6 => Op::Symbols,
         _ => Op::Open,
     }
 }
 
 /// An operation that gives a refusal of the module.
 pub fn reveal_module(rng: &mut Rng, made: &Made) -> Op {
-    match rng.below(10) {
+    match rng.below(12) {
         0 => Op::LoaderSymbol(near(rng, 3, made.loader_symbols.len() as u64)),
         1 => Op::LoaderSymbolName(near(rng, 3, made.loader_symbols.len() as u64)),
         2 => Op::ImportPath(near(rng, 0, made.ids)),
         3 => Op::ImportBase(near(rng, 0, made.ids)),
         4 => Op::ImportMember(near(rng, 0, made.ids)),
         5 => Op::Relocations,
+        8 => Op::LoaderSymbols,
+        9 => Op::ImportIds,
         6 => {
             let (text, data) = buffers(rng, made);
-            Op::Build { plan: any_plan(rng, made), text, data }
+            Op::Build {
+                plan: any_plan(rng, made),
+                text,
+                data,
+            }
         }
         7 => {
             let (text, data) = buffers(rng, made);
-            Op::Move { from: any_plan(rng, made), to: any_plan(rng, made), text, data }
+            Op::Move {
+                from: any_plan(rng, made),
+                to: any_plan(rng, made),
+                text,
+                data,
+            }
         }
         _ => Op::Module,
     }

@@ -1,0 +1,89 @@
+//! One operation, run by both implementations.
+
+use crate::{images, read};
+use reference::generate::Op;
+use reference::Refusal;
+use std::fmt::Debug;
+
+/// Where the two differ.
+#[derive(Debug)]
+pub struct Difference {
+    /// What of the operation: its answer, a buffer, a call of a list.
+    pub part: String,
+    pub ours: String,
+    pub theirs: String,
+}
+
+/// What both said.
+#[derive(Debug, Default)]
+pub struct Agreed {
+    /// The refusals given; of a list one for each refused call.
+    pub refusals: Vec<Refusal>,
+    /// Of a list: its calls, and the accepted moves among them that go from another plan than the one reached.
+    pub calls: u64,
+    pub broken_moves: u64,
+    /// Whether every move after the last build goes from the plan reached, so that the images are those of a plan.
+    pub chained: bool,
+}
+
+pub type Agreement = Result<Agreed, Difference>;
+
+/// Compares everything that the operation gives, the buffers afterwards included.
+pub fn compare(file: &[u8], op: &Op) -> Agreement {
+    match op {
+        Op::Build { .. } | Op::Move { .. } | Op::Calls { .. } => images::calls(file, op),
+        Op::ReadSheet { sheet, list } => images::read_sheet(sheet, list),
+        Op::WriteSheet {
+            text,
+            data,
+            list,
+            sheet,
+        } => images::write_sheet((*text, *data), list, sheet),
+        _ => read::read(file, op),
+    }
+}
+
+pub fn same<T: PartialEq + Debug>(part: &str, ours: &T, theirs: &T) -> Result<(), Difference> {
+    if ours == theirs {
+        return Ok(());
+    }
+    Err(Difference {
+        part: part.to_string(),
+        ours: short(ours),
+        theirs: short(theirs),
+    })
+}
+
+/// Text for people: what is too long is cut.
+fn short<T: Debug>(value: &T) -> String {
+    let text = format!("{value:x?}");
+    match text.char_indices().nth(2_000) {
+        Some((at, _)) => format!("{}...", &text[..at]),
+        None => text,
+    }
+}
+
+/// Two answers, refusals as number and item. Both results are of one type, made from each implementation's own.
+pub fn answers<T: PartialEq + Debug>(
+    part: &str,
+    ours: Result<T, xcoff::Refusal>,
+    theirs: Result<T, Refusal>,
+) -> Result<Option<Refusal>, Difference> {
+    let refused = theirs.as_ref().err().copied();
+    let ours = ours.map_err(|r| (r.number, r.item));
+    let theirs = theirs.map_err(|r| (r.number, r.item));
+    same(part, &ours, &theirs)?;
+    Ok(refused)
+}
+
+/// Two answers that are all of the operation.
+pub fn whole<T: PartialEq + Debug>(
+    ours: Result<T, xcoff::Refusal>,
+    theirs: Result<T, Refusal>,
+) -> Agreement {
+    let refusals = answers("answer", ours, theirs)?.into_iter().collect();
+    Ok(Agreed {
+        refusals,
+        ..Agreed::default()
+    })
+}

@@ -1,0 +1,153 @@
+//! Every operation on a file that was not made here: with arguments that fit it, and with hostile ones.
+
+use reference::generate::rng::Rng;
+use reference::generate::Op;
+use reference::{Call, Plan};
+
+/// Of tables of more rows than this only the end is looked up one by one: each look-up judges the whole module.
+const MANY: u64 = 300;
+
+/// Places from `first` on of a table of `count`, with those around its ends and the largest number; of a large table
+/// those at its end only.
+fn places(first: u64, count: u64, large: bool) -> Vec<u64> {
+    let end = first + count;
+    if large || count > MANY {
+        return vec![end.saturating_sub(1), end, u64::MAX];
+    }
+    let around = [0, first.saturating_sub(1), end, end + 1, 1 << 32, u64::MAX];
+    (first..end).chain(around).collect()
+}
+
+pub fn every(file: &[u8], rng: &mut Rng) -> Vec<Op> {
+    let opened = reference::open(file);
+    let (sections, symbols) = opened.map_or((0, 0), |o| (o.sections.len() as u64, o.symbols));
+    let module = reference::module(file);
+    let (loader_symbols, ids) = module
+        .as_ref()
+        .map_or((0, 0), |m| (m.loader_symbols, m.import_ids));
+    let large = module.is_ok_and(|m| m.relocations + m.loader_symbols > MANY);
+    let mut ops = vec![
+        Op::Open,
+        Op::Walk,
+        Op::Symbols,
+        Op::Module,
+        Op::Relocations,
+        Op::LoaderSymbols,
+        Op::ImportIds,
+    ];
+    for n in places(1, sections, false) {
+        ops.extend([Op::Section(n), Op::SectionName(n)]);
+    }
+    for i in places(0, symbols, false) {
+        ops.extend([Op::Symbol(i), Op::SymbolName(i), Op::Csect(i)]);
+    }
+    for i in places(3, loader_symbols, large) {
+        ops.extend([Op::LoaderSymbol(i), Op::LoaderSymbolName(i)]);
+    }
+    for n in places(0, ids, large) {
+        ops.extend([Op::ImportPath(n), Op::ImportBase(n), Op::ImportMember(n)]);
+    }
+    ops.extend(images(file, rng));
+    ops
+}
+
+/// A build, a move, a list with refused calls, and the sheet of a plan.
+fn images(file: &[u8], rng: &mut Rng) -> Vec<Op> {
+    let (sizes, plans) = plans(file, rng);
+    let [p, q, r] = plans;
+    let (text, data) = (rng.bytes(sizes.0), rng.bytes(sizes.1));
+    let mut long = q.clone();
+    long.list.push(0);
+    let calls = vec![
+        Call::Move(q.clone(), r.clone()),
+        Call::Build(p.clone()),
+        Call::Build(long.clone()),
+        Call::Move(p.clone(), q.clone()),
+        Call::Move(
+            q.clone(),
+            Plan {
+                text: u64::MAX,
+                ..r.clone()
+            },
+        ),
+        Call::Move(q.clone(), r.clone()),
+        Call::Move(p.clone(), p.clone()),
+    ];
+    let chained = vec![
+        Call::Build(p.clone()),
+        Call::Move(p.clone(), q.clone()),
+        Call::Move(q.clone(), r.clone()),
+    ];
+    let mut longer = data.clone();
+    longer.push(0);
+    let sheet = rng.bytes(20 + 8 * p.list.len());
+    let mut written = sheet.clone();
+    let _ = reference::write_sheet(p.text, p.data, &p.list, &mut written);
+    vec![
+        Op::Build {
+            plan: p.clone(),
+            text: text.clone(),
+            data: data.clone(),
+        },
+        Op::Build {
+            plan: q.clone(),
+            text: text.clone(),
+            data: longer,
+        },
+        Op::Move {
+            from: p.clone(),
+            to: q,
+            text: text.clone(),
+            data: data.clone(),
+        },
+        Op::Calls {
+            calls,
+            text: text.clone(),
+            data: data.clone(),
+        },
+        Op::Calls {
+            calls: chained,
+            text,
+            data,
+        },
+        Op::WriteSheet {
+            text: p.text,
+            data: p.data,
+            list: p.list.clone(),
+            sheet,
+        },
+        Op::ReadSheet {
+            sheet: written,
+            list: vec![0; p.list.len()],
+        },
+    ]
+}
+
+/// The lengths of the images and three plans that fit: as recorded, and two with addresses of their own.
+fn plans(file: &[u8], rng: &mut Rng) -> ((usize, usize), [Plan; 3]) {
+    let Ok(m) = reference::module(file) else {
+        return (
+            (8, 8),
+            [0, 1, 2].map(|text| Plan {
+                text,
+                data: 0,
+                list: Vec::new(),
+            }),
+        );
+    };
+    let symbols = reference::loader_symbols(file).unwrap_or_default();
+    let recorded = symbols.iter().map(|s| s.value).collect();
+    let mut any = || Plan {
+        text: rng.below(1 << 31),
+        data: rng.below(1 << 31),
+        list: symbols.iter().map(|_| rng.below(1 << 32)).collect(),
+    };
+    let others = [any(), any()];
+    let [q, r] = others;
+    let p = Plan {
+        text: m.text_address,
+        data: m.data_address,
+        list: recorded,
+    };
+    ((m.text_size as usize, m.data_image as usize), [p, q, r])
+}

@@ -1,0 +1,438 @@
+//! Which refusals were reached: every number of document 01 with every class of
+//! item it can have, in both formats, by group of operations.
+
+use crate::generate::Op;
+use crate::opening::{TBSS, TDATA};
+use crate::{open, word, Refusal};
+use std::collections::BTreeMap;
+
+/// Operations that reach the same rules, in the order of 01.
+#[derive(Clone, Copy, Debug, PartialEq, Eq, PartialOrd, Ord)]
+pub enum Group {
+    Open,
+    Section,
+    Symbol,
+    Csect,
+    Module,
+    Lookup,
+    Build,
+    Move,
+    List,
+    Sheet,
+}
+
+use Group::*;
+
+/// Each group with its word, in the order of the table's columns.
+pub const GROUPS: [(Group, &str); 10] = [
+    (Open, "open"),
+    (Section, "section"),
+    (Symbol, "symbol"),
+    (Csect, "csect"),
+    (Module, "module"),
+    (Lookup, "look-up"),
+    (Build, "build"),
+    (Move, "move"),
+    (List, "list"),
+    (Sheet, "sheet"),
+];
+
+/// Every operation opens the file, but those of sheets.
+const OPENING: &[Group] = &[
+    Open, Section, Symbol, Csect, Module, Lookup, Build, Move, List,
+];
+const LOADING: &[Group] = &[Module, Lookup, Build, Move, List];
+const PLANNED: &[Group] = &[Build, Move, List];
+
+/// The formats in which a class can be reached. `Neither`: before the format is
+/// known, or without a file.
+#[derive(Clone, Copy, PartialEq)]
+pub enum Formats {
+    Both,
+    Only32,
+    Neither,
+}
+
+use Formats::*;
+
+pub struct Class {
+    pub number: u64,
+    /// The item, and the cause where 01 has several for one item.
+    pub item: &'static str,
+    pub formats: Formats,
+    /// The groups that can reach it.
+    pub groups: &'static [Group],
+}
+
+const fn class(
+    number: u64,
+    item: &'static str,
+    formats: Formats,
+    groups: &'static [Group],
+) -> Class {
+    Class {
+        number,
+        item,
+        formats,
+        groups,
+    }
+}
+
+/// All classes, in the order of the numbers.
+pub const CLASSES: &[Class] = &[
+    class(1, "0 under 2 bytes", Neither, OPENING),
+    class(1, "0 file header", Both, OPENING),
+    class(1, "0 header area", Both, OPENING),
+    class(2, "0", Neither, OPENING),
+    class(3, "0 file", Both, OPENING),
+    class(3, "1 sections", Both, OPENING),
+    class(3, "2 loader symbols", Both, LOADING),
+    class(3, "2 sheet read", Neither, &[Sheet]),
+    class(3, "2 sheet written", Neither, &[Sheet]),
+    class(3, "3 relocation entries", Both, LOADING),
+    class(3, "4 data image", Both, LOADING),
+    class(4, "section", Both, OPENING),
+    class(5, "section", Both, OPENING),
+    class(5, "0 symbol table", Both, OPENING),
+    class(5, "0 string length cut", Both, OPENING),
+    class(5, "0 string table", Both, OPENING),
+    class(6, "section: differ", Both, OPENING),
+    class(6, "section: past the top", Both, OPENING),
+    class(6, "section: bss below data", Both, LOADING),
+    class(7, "0", Both, OPENING),
+    class(8, "section", Both, &[Section]),
+    class(8, "symbol entry", Both, &[Symbol, Csect]),
+    class(8, "loader symbol", Both, &[Lookup]),
+    class(8, "import id", Both, &[Lookup]),
+    class(9, "index", Both, &[Symbol, Csect]),
+    class(10, "index", Both, &[Symbol, Csect]),
+    class(11, "index", Both, &[Symbol, Csect]),
+    class(12, "index", Both, &[Csect]),
+    class(13, "0", Both, LOADING),
+    class(13, "1", Both, LOADING),
+    class(13, "2", Both, LOADING),
+    class(13, "3", Both, LOADING),
+    class(13, "4", Both, LOADING),
+    class(14, "section", Both, LOADING),
+    class(14, "entry", Both, LOADING),
+    class(15, "0", Both, LOADING),
+    class(15, "1", Both, LOADING),
+    class(15, "2", Both, LOADING),
+    class(15, "3", Both, LOADING),
+    class(15, "4", Both, LOADING),
+    class(15, "5", Both, LOADING),
+    class(16, "index from 3", Both, LOADING),
+    class(17, "entry", Both, LOADING),
+    class(18, "entry", Both, LOADING),
+    class(19, "0 text", Both, PLANNED),
+    class(19, "1 data", Both, PLANNED),
+    // Every 64-bit number is an address of XCOFF64.
+    class(19, "import from 3", Only32, PLANNED),
+    class(20, "0 text", Both, PLANNED),
+    class(20, "0 sheet", Neither, &[Sheet]),
+    class(20, "1 data", Both, PLANNED),
+    class(20, "2 list of a plan", Both, PLANNED),
+    class(20, "2 list of a sheet", Neither, &[Sheet]),
+    class(21, "0 under 20 bytes", Neither, &[Sheet]),
+    class(21, "0 first count", Neither, &[Sheet]),
+    class(21, "0 length", Neither, &[Sheet]),
+];
+
+pub fn group_of(op: &Op) -> Group {
+    match op {
+        Op::Open | Op::List => Open,
+        Op::Section(_) | Op::SectionName(_) => Section,
+        Op::Symbol(_) | Op::SymbolName(_) | Op::Walk | Op::Symbols => Symbol,
+        Op::Csect(_) => Csect,
+        Op::Module => Module,
+        Op::Relocations
+        | Op::LoaderSymbols
+        | Op::ImportIds
+        | Op::LoaderSymbol(_)
+        | Op::LoaderSymbolName(_)
+        | Op::ImportPath(_)
+        | Op::ImportBase(_)
+        | Op::ImportMember(_) => Lookup,
+        Op::Build { .. } => Build,
+        Op::Move { .. } => Move,
+        Op::Calls { .. } => List,
+        Op::ReadSheet { .. } | Op::WriteSheet { .. } => Sheet,
+    }
+}
+
+/// The format that the first two bytes name; 0 for none.
+pub fn bits_of(file: &[u8]) -> u64 {
+    match file {
+        [0x01, 0xDF, ..] => 32,
+        [0x01, 0xF7, ..] => 64,
+        _ => 0,
+    }
+}
+
+/// The class of a refusal that `op` gave on `file`; `?` for one that 01 doesn't
+/// have.
+pub fn item_of(file: &[u8], op: &Op, refusal: &Refusal) -> &'static str {
+    let item = refusal.item;
+    match refusal.number {
+        1 => short(file),
+        3 => limit(op, item),
+        5 if item == 0 => bounds(file),
+        4 | 5 => "section",
+        6 => address(file, item),
+        8 => asked(op),
+        9..=12 => "index",
+        13 | 15 => ["0", "1", "2", "3", "4", "5"]
+            .get(item as usize)
+            .copied()
+            .unwrap_or("?"),
+        14 => thread(file),
+        16 if item >= 3 => "index from 3",
+        17 | 18 => "entry",
+        19 => match item {
+            0 => "0 text",
+            1 => "1 data",
+            2 => "?",
+            _ => "import from 3",
+        },
+        20 => room(op, item),
+        21 => sheet(op),
+        _ if item == 0 => "0",
+        _ => "?",
+    }
+}
+
+fn short(file: &[u8]) -> &'static str {
+    let header = if bits_of(file) == 32 { 20 } else { 24 };
+    match file.len() {
+        0 | 1 => "0 under 2 bytes",
+        length if length < header => "0 file header",
+        _ => "0 header area",
+    }
+}
+
+fn limit(op: &Op, item: u64) -> &'static str {
+    match (item, op) {
+        (0, _) => "0 file",
+        (1, _) => "1 sections",
+        (2, Op::ReadSheet { .. }) => "2 sheet read",
+        (2, Op::WriteSheet { .. }) => "2 sheet written",
+        (2, _) => "2 loader symbols",
+        (3, _) => "3 relocation entries",
+        (4, _) => "4 data image",
+        _ => "?",
+    }
+}
+
+/// BOUNDS 0: what passes the file's end.
+fn bounds(file: &[u8]) -> &'static str {
+    let (word, count) = if bits_of(file) == 32 {
+        (4, 12)
+    } else {
+        (8, 20)
+    };
+    let start = crate::bytes::number(file, 8, word);
+    let end = u128::from(start) + 18 * u128::from(crate::bytes::number(file, count, 4));
+    match (file.len() as u128).checked_sub(end) {
+        None => "0 symbol table",
+        Some(1..=3) => "0 string length cut",
+        Some(_) => "0 string table",
+    }
+}
+
+/// ADDRESS of section `n`: a file that opens has passed the first two causes.
+fn address(file: &[u8], n: u64) -> &'static str {
+    if open(file).is_ok() {
+        return "section: bss below data";
+    }
+    let (header, each, word) = if bits_of(file) == 32 {
+        (20, 40, 4)
+    } else {
+        (24, 72, 8)
+    };
+    let at = header + crate::bytes::number(file, 16, 2) as usize + (n as usize - 1) * each;
+    let paddr = crate::bytes::number(file, at + 8, word);
+    if paddr == crate::bytes::number(file, at + 8 + word, word) {
+        "section: past the top"
+    } else {
+        "section: differ"
+    }
+}
+
+/// What an INDEX was given for.
+fn asked(op: &Op) -> &'static str {
+    match op {
+        Op::Section(_) | Op::SectionName(_) => "section",
+        Op::Symbol(_) | Op::SymbolName(_) | Op::Csect(_) => "symbol entry",
+        Op::LoaderSymbol(_) | Op::LoaderSymbolName(_) => "loader symbol",
+        Op::ImportPath(_) | Op::ImportBase(_) | Op::ImportMember(_) => "import id",
+        _ => "?",
+    }
+}
+
+/// A thread section is found before any entry.
+fn thread(file: &[u8]) -> &'static str {
+    match open(file) {
+        Ok(s)
+            if s.sections
+                .iter()
+                .any(|s| s.flags == TDATA || s.flags == TBSS) =>
+        {
+            "section"
+        }
+        Ok(_) => "entry",
+        Err(_) => "?",
+    }
+}
+
+fn room(op: &Op, item: u64) -> &'static str {
+    match (item, op) {
+        (0, Op::WriteSheet { .. }) => "0 sheet",
+        (0, _) => "0 text",
+        (1, _) => "1 data",
+        (2, Op::ReadSheet { .. }) => "2 list of a sheet",
+        (2, _) => "2 list of a plan",
+        _ => "?",
+    }
+}
+
+fn sheet(op: &Op) -> &'static str {
+    match op {
+        Op::ReadSheet { sheet, .. } if sheet.len() < 20 => "0 under 20 bytes",
+        Op::ReadSheet { sheet, .. } if sheet[..2] != [0, 2] => "0 first count",
+        Op::ReadSheet { .. } => "0 length",
+        _ => "?",
+    }
+}
+
+/// How often each class was reached.
+#[derive(Default)]
+pub struct Table {
+    /// By number, item, bits and group.
+    reached: BTreeMap<(u64, &'static str, u64, Group), u64>,
+}
+
+/// A row: a class in one format, 0 for none.
+type Row = (&'static Class, u64);
+
+fn rows() -> Vec<Row> {
+    let formats = |class: &Class| match class.formats {
+        Both => vec![32, 64],
+        Only32 => vec![32],
+        Neither => vec![0],
+    };
+    CLASSES
+        .iter()
+        .flat_map(|c| formats(c).into_iter().map(move |bits| (c, bits)))
+        .collect()
+}
+
+impl Table {
+    pub fn count(&mut self, file: &[u8], op: &Op, refusal: &Refusal) {
+        let item = item_of(file, op, refusal);
+        let known = CLASSES
+            .iter()
+            .find(|c| c.number == refusal.number && c.item == item);
+        let bits = match known.map(|class| class.formats) {
+            Some(Neither) => 0,
+            _ => bits_of(file),
+        };
+        *self
+            .reached
+            .entry((refusal.number, item, bits, group_of(op)))
+            .or_insert(0) += 1;
+    }
+
+    pub fn refusals(&self) -> u64 {
+        self.reached.values().sum()
+    }
+
+    fn cell(&self, row: Row, group: Group) -> u64 {
+        let key = (row.0.number, row.0.item, row.1, group);
+        self.reached.get(&key).copied().unwrap_or(0)
+    }
+
+    fn sum(&self, row: Row) -> u64 {
+        GROUPS.iter().map(|&(group, _)| self.cell(row, group)).sum()
+    }
+
+    /// How many rows were reached, and how many there are.
+    pub fn coverage(&self) -> (usize, usize) {
+        let rows = rows();
+        (
+            rows.iter().filter(|&&row| self.sum(row) > 0).count(),
+            rows.len(),
+        )
+    }
+
+    /// The rows that were never reached.
+    pub fn missing(&self) -> Vec<String> {
+        rows()
+            .into_iter()
+            .filter(|&row| self.sum(row) == 0)
+            .map(title)
+            .collect()
+    }
+
+    /// The places of a row that were never reached, though they can be.
+    pub fn missing_places(&self) -> Vec<String> {
+        let mut all = Vec::new();
+        for row in rows() {
+            for (group, word) in GROUPS {
+                if row.0.groups.contains(&group) && self.cell(row, group) == 0 {
+                    all.push(format!("{} by {word}", title(row)));
+                }
+            }
+        }
+        all
+    }
+
+    /// Refusals that are in no row, or were given where they cannot be.
+    pub fn strange(&self) -> Vec<String> {
+        let known = |&(number, item, bits, group): &(u64, &str, u64, Group)| {
+            rows().iter().any(|(class, b)| {
+                (class.number, class.item, *b) == (number, item, bits)
+                    && class.groups.contains(&group)
+            })
+        };
+        let strange = self.reached.keys().filter(|key| !known(key));
+        strange.map(|key| format!("{key:?}")).collect()
+    }
+
+    /// The table as text: a dot where a refusal cannot be given.
+    pub fn text(&self) -> String {
+        let mut text = format!("{:>3} {:<8} {:<24}{:>4}", "No.", "name", "item", "bits");
+        for (_, word) in GROUPS {
+            text += &format!(" {word:>7}");
+        }
+        text += &format!(" {:>8}\n", "all");
+        for row in rows() {
+            text += &title(row);
+            for (group, _) in GROUPS {
+                text += &match self.cell(row, group) {
+                    0 if !row.0.groups.contains(&group) => format!(" {:>7}", "."),
+                    0 => format!(" {:>7}", "never"),
+                    times => format!(" {times:>7}"),
+                };
+            }
+            text += &match self.sum(row) {
+                0 => format!(" {:>8}\n", "NEVER"),
+                times => format!(" {times:>8}\n"),
+            };
+        }
+        text
+    }
+}
+
+fn title((class, bits): Row) -> String {
+    let bits = if bits == 0 {
+        "-".to_string()
+    } else {
+        bits.to_string()
+    };
+    format!(
+        "{:>3} {:<8} {:<24}{bits:>4}",
+        class.number,
+        word(class.number),
+        class.item
+    )
+}

@@ -1,0 +1,96 @@
+//! Bytes of others as text that is safe to print: no name reaches a terminal as it stands.
+
+use std::path::Path;
+
+/// Bytes of a name that are shown. Names may share their bytes, so that without it a listing could be far longer than
+/// its file.
+pub const MOST: usize = 256;
+
+/// A name as one word: printable characters as they are, every other byte, blanks and quotes as `\xNN`, a backslash
+/// doubled. The empty name is `""`. A longer name than is shown ends in `\...`.
+pub fn name(bytes: &[u8]) -> String {
+    let mut out = String::new();
+    push_name(bytes, &mut out);
+    out
+}
+
+pub fn push_name(bytes: &[u8], out: &mut String) {
+    if bytes.is_empty() {
+        out.push_str("\"\"");
+    }
+    for &byte in &bytes[..bytes.len().min(MOST)] {
+        match byte {
+            b'\\' => out.push_str("\\\\"),
+            b'"' => push_hex(byte, out),
+            b'!'..=b'~' => out.push(byte as char),
+            _ => push_hex(byte, out),
+        }
+    }
+    if bytes.len() > MOST {
+        out.push_str("\\...");
+    }
+}
+
+fn push_hex(byte: u8, out: &mut String) {
+    out.push_str(&format!("\\x{byte:02x}"));
+}
+
+/// How many characters [`name`] has.
+pub fn width(bytes: &[u8]) -> usize {
+    let shown = &bytes[..bytes.len().min(MOST)];
+    let one = |&byte: &u8| match byte {
+        b'\\' => 2,
+        b'"' => 4,
+        b'!'..=b'~' => 1,
+        _ => 4,
+    };
+    let mark = if bytes.len() > MOST { 4 } else { 0 };
+    match bytes.len() {
+        0 => 2,
+        _ => shown.iter().map(one).sum::<usize>() + mark,
+    }
+}
+
+/// The bytes of a name that is written as [`name`] shows it; none where a backslash begins nothing of that kind.
+pub fn unescape(shown: &[u8]) -> Option<Vec<u8>> {
+    let mut bytes = Vec::new();
+    let mut rest = shown;
+    while let Some((&first, after)) = rest.split_first() {
+        rest = match (first, after) {
+            (b'\\', [b'\\', more @ ..]) => {
+                bytes.push(b'\\');
+                more
+            }
+            (b'\\', [b'x', high, low, more @ ..]) => {
+                bytes.push(16 * digit(*high)? + digit(*low)?);
+                more
+            }
+            (b'\\', _) => return None,
+            _ => {
+                bytes.push(first);
+                after
+            }
+        };
+    }
+    Some(bytes)
+}
+
+fn digit(byte: u8) -> Option<u8> {
+    (byte as char).to_digit(16).map(|d| d as u8)
+}
+
+/// A path or an argument of the command line, without control characters; `''` where it is empty.
+pub fn argument(text: impl AsRef<Path>) -> String {
+    let shown = text.as_ref().to_string_lossy();
+    if shown.is_empty() {
+        return "''".to_string();
+    }
+    let mut out = String::new();
+    for c in shown.chars() {
+        match c.is_control() {
+            true => out.extend(c.escape_default()),
+            false => out.push(c),
+        }
+    }
+    out
+}

@@ -1,0 +1,200 @@
+//! Tables for people, in aligned columns, or for programs, one JSON object a line.
+//!
+//! Rows are written as they come, with widths given beforehand: a listing's memory and time stay linear in the file.
+
+use crate::escape;
+use std::fmt::Write as _;
+use std::io::{self, Write};
+
+pub enum Cell<'a> {
+    /// An address, a type, flags.
+    Hex(u64),
+    Number(u64),
+    /// A number that people know by a word.
+    Named(i64, Option<&'static str>),
+    Word(&'static str),
+    Name(&'a [u8]),
+    Nothing,
+}
+
+pub struct Column {
+    name: &'static str,
+    shape: Shape,
+}
+
+enum Shape {
+    /// Digits.
+    Hex(usize),
+    /// Least width, to the right.
+    Right(usize),
+    /// Least width, to the left.
+    Left(usize),
+}
+
+/// A number of so many hexadecimal digits.
+pub fn hex(name: &'static str, digits: usize) -> Column {
+    let shape = Shape::Hex(digits);
+    Column { name, shape }
+}
+
+/// Numbers up to the greatest one.
+pub fn number(name: &'static str, greatest: u64) -> Column {
+    let shape = Shape::Right(greatest.checked_ilog10().unwrap_or(0) as usize + 1);
+    Column { name, shape }
+}
+
+/// Words of at most so many characters. A longer one pushes the rest of its line to the right.
+pub fn word(name: &'static str, width: usize) -> Column {
+    let shape = Shape::Left(width);
+    Column { name, shape }
+}
+
+/// Names that are not the last column: wide enough for all of them, up to a bound, since every row pays for it.
+pub fn names<'a>(name: &'static str, all: impl Iterator<Item = &'a [u8]>) -> Column {
+    word(name, all.map(escape::width).max().unwrap_or(0).min(40))
+}
+
+impl Column {
+    fn width(&self) -> usize {
+        let (Shape::Hex(width) | Shape::Right(width) | Shape::Left(width)) = self.shape;
+        width.max(self.name.len())
+    }
+}
+
+pub struct Listing<'w> {
+    out: &'w mut dyn Write,
+    json: bool,
+    table: &'static str,
+    columns: Vec<Column>,
+    line: String,
+    cell: String,
+}
+
+impl<'w> Listing<'w> {
+    pub fn new(out: &'w mut dyn Write, json: bool) -> Listing<'w> {
+        Listing {
+            out,
+            json,
+            table: "",
+            columns: Vec::new(),
+            line: String::new(),
+            cell: String::new(),
+        }
+    }
+
+    /// Begins a table; for programs each of its rows bears the table's name.
+    pub fn table(&mut self, name: &'static str, columns: Vec<Column>) -> io::Result<()> {
+        let first = self.table.is_empty();
+        self.table = name;
+        self.columns = columns;
+        if self.json {
+            return Ok(());
+        }
+        if !first {
+            writeln!(self.out)?;
+        }
+        self.line.clear();
+        for column in &self.columns {
+            pad(&mut self.line, column, column.name);
+        }
+        self.end_line()
+    }
+
+    pub fn row(&mut self, cells: &[Cell]) -> io::Result<()> {
+        debug_assert_eq!(cells.len(), self.columns.len());
+        self.line.clear();
+        if self.json {
+            self.json_row(cells);
+        } else {
+            for (column, cell) in self.columns.iter().zip(cells) {
+                self.cell.clear();
+                push_text(&mut self.cell, column, cell);
+                pad(&mut self.line, column, &self.cell);
+            }
+        }
+        self.end_line()
+    }
+
+    fn json_row(&mut self, cells: &[Cell]) {
+        push(
+            &mut self.line,
+            format_args!("{{\"table\":\"{}\"", self.table),
+        );
+        for (column, cell) in self.columns.iter().zip(cells) {
+            push(&mut self.line, format_args!(",\"{}\":", column.name));
+            push_json(&mut self.line, column, cell);
+        }
+        self.line.push('}');
+    }
+
+    fn end_line(&mut self) -> io::Result<()> {
+        writeln!(self.out, "{}", self.line.trim_end())
+    }
+}
+
+/// A cell behind what the line holds, two blanks between.
+fn pad(line: &mut String, column: &Column, cell: &str) {
+    if !line.is_empty() {
+        line.push_str("  ");
+    }
+    let width = column.width();
+    match column.shape {
+        Shape::Right(_) => push(line, format_args!("{cell:>width$}")),
+        _ => push(line, format_args!("{cell:<width$}")),
+    }
+}
+
+fn push_text(out: &mut String, column: &Column, cell: &Cell) {
+    match cell {
+        Cell::Hex(value) => push_hex(out, column, *value),
+        Cell::Number(value) => push(out, format_args!("{value}")),
+        Cell::Named(_, Some(word)) => out.push_str(word),
+        Cell::Named(value, None) => push(out, format_args!("{value}")),
+        Cell::Word(word) => out.push_str(word),
+        Cell::Name(bytes) => escape::push_name(bytes, out),
+        Cell::Nothing => out.push('-'),
+    }
+}
+
+fn push_json(out: &mut String, column: &Column, cell: &Cell) {
+    match cell {
+        Cell::Hex(value) => {
+            out.push('"');
+            push_hex(out, column, *value);
+            out.push('"');
+        }
+        Cell::Number(value) => push(out, format_args!("{value}")),
+        Cell::Named(value, _) => push(out, format_args!("{value}")),
+        Cell::Word(word) => push(out, format_args!("\"{word}\"")),
+        Cell::Name(bytes) => push_json_name(out, column, bytes),
+        Cell::Nothing => out.push_str("null"),
+    }
+}
+
+fn push_hex(out: &mut String, column: &Column, value: u64) {
+    let digits = match column.shape {
+        Shape::Hex(digits) => digits,
+        _ => 1,
+    };
+    push(out, format_args!("{value:0digits$x}"));
+}
+
+/// A name's bytes as the characters U+0000 to U+00FF, and whether it is cut.
+fn push_json_name(out: &mut String, column: &Column, bytes: &[u8]) {
+    out.push('"');
+    for &byte in &bytes[..bytes.len().min(escape::MOST)] {
+        match byte {
+            b'"' | b'\\' => push(out, format_args!("\\{}", byte as char)),
+            b' '..=b'~' => out.push(byte as char),
+            _ => push(out, format_args!("\\u{byte:04x}")),
+        }
+    }
+    out.push('"');
+    if bytes.len() > escape::MOST {
+        push(out, format_args!(",\"{}_cut\":true", column.name));
+    }
+}
+
+fn push(out: &mut String, text: std::fmt::Arguments) {
+    out.write_fmt(text).expect("a string takes any text");
+}

@@ -1,0 +1,398 @@
+//! The commands that list what a file holds.
+
+use crate::args::Arguments;
+use crate::escape;
+use crate::files;
+use crate::listing::{hex, names, number, word, Cell, Column, Listing};
+use crate::output::{print, refused};
+use crate::problem::Problem;
+use crate::words::{class_word, kind_word, mapping_word, section_word};
+use std::io;
+use xcoff::{
+    Anchor, Csect, CsectType, Format, Image, LoaderRow, Module, Opened, Part, Relocation, Section,
+    SymbolRow, SymbolTable,
+};
+
+pub fn headers(args: &Arguments) -> Result<(), Problem> {
+    let path = args.path(0);
+    let file = files::read(path, files::FILE)?;
+    let opened = refused(path, xcoff::open(&file))?;
+    let mut sections = Vec::new();
+    for n in 1..=opened.sections {
+        let section = refused(path, xcoff::section(&file, n))?;
+        sections.push((section, refused(path, xcoff::section_name(&file, n))?));
+    }
+    print(|out| {
+        let mut list = Listing::new(out, args.has("--json"));
+        file_row(&mut list, &opened)?;
+        list.table("sections", section_columns(&opened, &sections))?;
+        for (n, (section, name)) in sections.iter().enumerate() {
+            section_row(&mut list, n as u64 + 1, section, name)?;
+        }
+        Ok(())
+    })
+}
+
+fn file_row(list: &mut Listing, opened: &Opened) -> io::Result<()> {
+    let columns = vec![
+        word("format", 7),
+        number("sections", opened.sections),
+        number("symbols", opened.symbols),
+        number("auxiliary", opened.opthdr),
+        hex("flags", 4),
+    ];
+    list.table("file", columns)?;
+    list.row(&[
+        Cell::Word(format_word(opened.format)),
+        Cell::Number(opened.sections),
+        Cell::Number(opened.symbols),
+        Cell::Number(opened.opthdr),
+        Cell::Hex(opened.flags),
+    ])
+}
+
+fn section_columns(opened: &Opened, sections: &[(Section, &[u8])]) -> Vec<Column> {
+    let greatest = |of: fn(&Section) -> u64| sections.iter().map(|(s, _)| of(s)).max().unwrap_or(0);
+    vec![
+        number("section", opened.sections),
+        word("kind", 7),
+        hex("paddr", digits(opened.format)),
+        hex("vaddr", digits(opened.format)),
+        number("size", greatest(|s| s.size)),
+        number("offset", greatest(|s| s.scnptr)),
+        word("raw", 3),
+        word("name", 0),
+    ]
+}
+
+fn section_row(list: &mut Listing, n: u64, section: &Section, name: &[u8]) -> io::Result<()> {
+    list.row(&[
+        Cell::Number(n),
+        Cell::Word(kind_word(section.kind)),
+        Cell::Hex(section.paddr),
+        Cell::Hex(section.vaddr),
+        Cell::Number(section.size),
+        Cell::Number(section.scnptr),
+        Cell::Word(if section.raw { "yes" } else { "no" }),
+        Cell::Name(name),
+    ])
+}
+
+/// Lists what the walk reads; where it ends early, the refusal follows the list.
+pub fn symbols(args: &Arguments) -> Result<(), Problem> {
+    let path = args.path(0);
+    let file = files::read(path, files::FILE)?;
+    let opened = refused(path, xcoff::open(&file))?;
+    let table = refused(path, xcoff::symbol_table(&file))?;
+    print(|out| {
+        let mut list = Listing::new(out, args.has("--json"));
+        list.table("symbols", symbol_columns(opened.format, &table))?;
+        table.rows().try_for_each(|row| symbol_row(&mut list, &row))
+    })?;
+    match table.walk.cause {
+        Some(refusal) => refused(path, Err(refusal)),
+        None => Ok(()),
+    }
+}
+
+fn symbol_columns(format: Format, table: &SymbolTable) -> Vec<Column> {
+    let length = |row: SymbolRow| row.csect.map_or(0, |c| c.length);
+    vec![
+        number("index", table.walk.end),
+        hex("value", digits(format)),
+        number("section", 32),
+        hex("type", 4),
+        word("class", 7),
+        number("aux", 255),
+        word("csect", 3),
+        number("align", 31),
+        word("mapping", 6),
+        number("length", table.rows().map(length).max().unwrap_or(0)),
+        number("within", table.walk.end),
+        word("name", 0),
+    ]
+}
+
+fn symbol_row(list: &mut Listing, row: &SymbolRow) -> io::Result<()> {
+    let s = &row.symbol;
+    let csect = row.csect.as_ref();
+    let holds = |wanted: bool| move |c: &&Csect| (c.kind == CsectType::Ld) == wanted;
+    let length = |c: &Csect| Cell::Number(c.length);
+    list.row(&[
+        Cell::Number(row.index),
+        Cell::Hex(s.value),
+        Cell::Named(s.scnum, section_word(s.scnum)),
+        Cell::Hex(s.ntype),
+        Cell::Named(s.sclass as i64, class_word(s.sclass)),
+        Cell::Number(s.numaux),
+        csect_cell(row),
+        csect.map_or(Cell::Nothing, |c| Cell::Number(c.align)),
+        csect.map_or(Cell::Nothing, |c| {
+            Cell::Named(c.smclas as i64, mapping_word(c.smclas))
+        }),
+        csect.filter(holds(false)).map_or(Cell::Nothing, length),
+        csect.filter(holds(true)).map_or(Cell::Nothing, length),
+        Cell::Name(row.name_up_to(escape::MOST + 1)),
+    ])
+}
+
+/// The csect's type; "bad" where the class carries a csect entry and there is no valid one.
+fn csect_cell(row: &SymbolRow) -> Cell<'static> {
+    match &row.csect {
+        Some(c) => Cell::Word(match c.kind {
+            CsectType::Er => "ER",
+            CsectType::Sd => "SD",
+            CsectType::Ld => "LD",
+            CsectType::Cm => "CM",
+        }),
+        None if matches!(row.symbol.sclass, 2 | 107 | 111) => Cell::Word("bad"),
+        None => Cell::Nothing,
+    }
+}
+
+pub fn module(args: &Arguments) -> Result<(), Problem> {
+    let path = args.path(0);
+    let file = files::read(path, files::FILE)?;
+    let module = refused(path, xcoff::module(&file))?;
+    let symbols = refused(path, xcoff::loader_symbol_table(&file))?;
+    print(|out| {
+        let mut list = Listing::new(out, args.has("--json"));
+        module_row(&mut list, &module)?;
+        module_parts(&mut list, &module)?;
+        module_anchors(&mut list, &module)?;
+        loader_symbols(&mut list, &module, &symbols)
+    })
+}
+
+fn module_row(list: &mut Listing, m: &Module) -> io::Result<()> {
+    let columns = vec![
+        word("format", 7),
+        number("loader", m.loader),
+        number("symbols", m.symbols),
+        number("relocations", m.relocations),
+        number("ids", m.ids),
+    ];
+    list.table("module", columns)?;
+    list.row(&[
+        Cell::Word(format_word(m.format)),
+        Cell::Number(m.loader),
+        Cell::Number(m.symbols),
+        Cell::Number(m.relocations),
+        Cell::Number(m.ids),
+    ])
+}
+
+/// The sections that make the images, and the data image itself.
+fn module_parts(list: &mut Listing, m: &Module) -> io::Result<()> {
+    let columns = vec![
+        word("part", 5),
+        number("section", 32),
+        hex("address", digits(m.format)),
+        number("size", m.image.max(m.text.size)),
+    ];
+    list.table("parts", columns)?;
+    let image = Part {
+        size: m.image,
+        ..m.data
+    };
+    for (name, part) in [
+        ("text", m.text),
+        ("data", m.data),
+        ("bss", m.bss),
+        ("image", image),
+    ] {
+        list.row(&[
+            Cell::Word(name),
+            if name == "image" {
+                Cell::Nothing
+            } else {
+                Cell::Number(part.number)
+            },
+            Cell::Hex(part.address),
+            Cell::Number(part.size),
+        ])?;
+    }
+    Ok(())
+}
+
+fn module_anchors(list: &mut Listing, m: &Module) -> io::Result<()> {
+    let columns = vec![
+        word("anchor", 5),
+        number("section", 32),
+        hex("address", digits(m.format)),
+    ];
+    list.table("anchors", columns)?;
+    for (name, anchor) in [("entry", m.entry), ("TOC", m.toc)] {
+        list.row(&[
+            Cell::Word(name),
+            anchor.map_or(Cell::Nothing, |a: Anchor| Cell::Number(a.section)),
+            anchor.map_or(Cell::Nothing, |a: Anchor| Cell::Hex(a.address)),
+        ])?;
+    }
+    Ok(())
+}
+
+fn loader_symbols(list: &mut Listing, m: &Module, symbols: &[LoaderRow]) -> io::Result<()> {
+    let greatest = |of: fn(&LoaderRow) -> u64| symbols.iter().map(of).max().unwrap_or(0);
+    let columns = vec![
+        number("index", m.symbols + 2),
+        hex("value", digits(m.format)),
+        number("section", 32),
+        hex("type", 2),
+        word("mapping", 6),
+        number("id", greatest(|row| row.symbol.ifile)),
+        hex("parm", 8),
+        word("use", 8),
+        word("name", 0),
+    ];
+    list.table("loader_symbols", columns)?;
+    symbols.iter().try_for_each(|row| {
+        let s = &row.symbol;
+        list.row(&[
+            Cell::Number(row.index),
+            Cell::Hex(s.value),
+            Cell::Number(s.scnum),
+            Cell::Hex(s.smtype),
+            Cell::Named(s.smclas as i64, mapping_word(s.smclas)),
+            Cell::Number(s.ifile),
+            Cell::Hex(s.parm),
+            Cell::Word(use_word(row)),
+            Cell::Name(row.name),
+        ])
+    })
+}
+
+/// What a plan's address of a loader symbol is for: only that of an `import` is used.
+pub fn use_word(row: &LoaderRow) -> &'static str {
+    match row.symbol.is_import() {
+        false => "defined",
+        true if row.symbol.is_deferred() => "deferred",
+        true => "import",
+    }
+}
+
+pub fn imports(args: &Arguments) -> Result<(), Problem> {
+    let path = args.path(0);
+    let file = files::read(path, files::FILE)?;
+    let module = refused(path, xcoff::module(&file))?;
+    let ids = refused(path, xcoff::import_table(&file))?;
+    let symbols = refused(path, xcoff::loader_symbol_table(&file))?;
+    let id_columns = vec![
+        number("id", module.ids),
+        names("path", ids.rows().map(|id| id.path)),
+        names("base", ids.rows().map(|id| id.base)),
+        word("member", 0),
+    ];
+    print(|out| {
+        let mut list = Listing::new(out, args.has("--json"));
+        list.table("ids", id_columns)?;
+        for (n, id) in ids.rows().enumerate() {
+            list.row(&[
+                Cell::Number(n as u64),
+                Cell::Name(id.path),
+                Cell::Name(id.base),
+                Cell::Name(id.member),
+            ])?;
+        }
+        imported(&mut list, &module, &symbols)
+    })
+}
+
+fn imported(list: &mut Listing, m: &Module, symbols: &[LoaderRow]) -> io::Result<()> {
+    let columns = vec![
+        number("index", m.symbols + 2),
+        hex("recorded", digits(m.format)),
+        word("mapping", 6),
+        number("id", m.ids),
+        word("use", 8),
+        word("name", 0),
+    ];
+    list.table("imports", columns)?;
+    for row in symbols.iter().filter(|row| row.symbol.is_import()) {
+        list.row(&[
+            Cell::Number(row.index),
+            Cell::Hex(row.symbol.value),
+            Cell::Named(row.symbol.smclas as i64, mapping_word(row.symbol.smclas)),
+            Cell::Number(row.symbol.ifile),
+            Cell::Word(use_word(row)),
+            Cell::Name(row.name),
+        ])?;
+    }
+    Ok(())
+}
+
+pub fn relocations(args: &Arguments) -> Result<(), Problem> {
+    let path = args.path(0);
+    let file = files::read(path, files::FILE)?;
+    let module = refused(path, xcoff::module(&file))?;
+    let symbols = refused(path, xcoff::loader_symbol_table(&file))?;
+    let entries = refused(path, xcoff::relocation_table(&file))?;
+    let columns = vec![
+        number("entry", module.relocations),
+        hex("address", digits(module.format)),
+        word("section", 4),
+        number(
+            "offset",
+            entries.iter().map(|e| e.offset).max().unwrap_or(0),
+        ),
+        number("bits", 64),
+        word("sign", 1),
+        hex("type", 4),
+        number("symbol", module.symbols + 2),
+        word("name", 0),
+    ];
+    print(|out| {
+        let mut list = Listing::new(out, args.has("--json"));
+        list.table("relocations", columns)?;
+        for (n, entry) in entries.iter().enumerate() {
+            relocation_row(&mut list, n as u64, entry, &symbols)?;
+        }
+        Ok(())
+    })
+}
+
+fn relocation_row(
+    list: &mut Listing,
+    n: u64,
+    entry: &Relocation,
+    symbols: &[LoaderRow],
+) -> io::Result<()> {
+    list.row(&[
+        Cell::Number(n),
+        Cell::Hex(entry.address),
+        Cell::Word(image_word(entry.image)),
+        Cell::Number(entry.offset),
+        Cell::Number(8 * entry.width),
+        Cell::Word(if entry.subtracts { "-" } else { "+" }),
+        Cell::Hex(entry.rtype),
+        Cell::Number(entry.symbol),
+        Cell::Name(match entry.symbol {
+            0 => b"text",
+            1 => b"data",
+            2 => b"bss",
+            index => symbols[index as usize - 3].name,
+        }),
+    ])
+}
+
+pub fn image_word(image: Image) -> &'static str {
+    match image {
+        Image::Text => "text",
+        Image::Data => "data",
+    }
+}
+
+pub fn format_word(format: Format) -> &'static str {
+    match format {
+        Format::Xcoff32 => "XCOFF32",
+        Format::Xcoff64 => "XCOFF64",
+    }
+}
+
+/// Hexadecimal digits of an address.
+pub fn digits(format: Format) -> usize {
+    match format {
+        Format::Xcoff32 => 8,
+        Format::Xcoff64 => 16,
+    }
+}

@@ -1,0 +1,133 @@
+//! What the commands about plans and images work on: a module, plans from sheets, pairs of images.
+
+use crate::args::Arguments;
+use crate::escape;
+use crate::files;
+use crate::lists;
+use crate::output::refused;
+use crate::problem::Problem;
+use std::path::Path;
+use xcoff::{Image, Module, Plan, Reached, Refusal};
+
+/// A file that is accepted as a module.
+pub struct Loaded<'p> {
+    pub path: &'p Path,
+    pub bytes: Vec<u8>,
+    pub module: Module,
+}
+
+/// A plan and the sheet it was read from.
+pub struct Sheet<'p> {
+    pub path: &'p Path,
+    pub plan: Plan,
+}
+
+/// The two images of a module.
+#[derive(Clone, PartialEq, Eq)]
+pub struct Pair {
+    pub text: Vec<u8>,
+    pub data: Vec<u8>,
+}
+
+impl<'p> Loaded<'p> {
+    pub fn read(path: &'p Path) -> Result<Loaded<'p>, Problem> {
+        let bytes = files::read(path, files::FILE)?;
+        let module = refused(path, xcoff::module(&bytes))?;
+        Ok(Loaded {
+            path,
+            bytes,
+            module,
+        })
+    }
+
+    pub fn digits(&self) -> usize {
+        lists::digits(self.module.format)
+    }
+
+    /// The images for a plan, and the addresses reached.
+    pub fn build(&self, plan: &Plan) -> Result<(Pair, Reached), Refusal> {
+        let mut pair = Pair {
+            text: vec![0; self.module.text.size as usize],
+            data: vec![0; self.module.image as usize],
+        };
+        let reached = xcoff::build_images(&self.bytes, plan, &mut pair.text, &mut pair.data)?;
+        Ok((pair, reached))
+    }
+
+    /// The same for a sheet's plan: a refusal is about the two together, since the module itself is accepted.
+    pub fn build_sheet(&self, sheet: &Sheet) -> Result<(Pair, Reached), Problem> {
+        let built = self.build(&sheet.plan);
+        built.map_err(|refusal| Problem::Refused {
+            about: self.with(sheet.path),
+            refusal,
+        })
+    }
+
+    /// "SHEET for FILE".
+    pub fn with(&self, sheet: &Path) -> String {
+        format!(
+            "{} for {}",
+            escape::argument(sheet),
+            escape::argument(self.path)
+        )
+    }
+}
+
+impl<'p> Sheet<'p> {
+    pub fn read(path: &'p Path) -> Result<Sheet<'p>, Problem> {
+        let bytes = files::read(path, files::SHEET)?;
+        let plan = refused(path, xcoff::read_sheet(&bytes))?;
+        Ok(Sheet { path, plan })
+    }
+
+    /// Where an image lies in the card's memory.
+    pub fn address(&self, image: Image) -> u64 {
+        match image {
+            Image::Text => self.plan.text,
+            Image::Data => self.plan.data,
+        }
+    }
+}
+
+impl Pair {
+    pub fn read(text: &Path, data: &Path) -> Result<Pair, Problem> {
+        Ok(Pair {
+            text: files::read(text, files::IMAGE)?,
+            data: files::read(data, files::IMAGE)?,
+        })
+    }
+
+    pub fn image(&self, image: Image) -> &[u8] {
+        match image {
+            Image::Text => &self.text,
+            Image::Data => &self.data,
+        }
+    }
+
+    pub fn image_mut(&mut self, image: Image) -> &mut [u8] {
+        match image {
+            Image::Text => &mut self.text,
+            Image::Data => &mut self.data,
+        }
+    }
+}
+
+/// No output may be another file of the same command: one of the two would be lost.
+pub fn apart(
+    args: &Arguments,
+    outputs: &[(&str, &Path)],
+    inputs: &[(&str, &Path)],
+) -> Result<(), Problem> {
+    for (n, (name, path)) in outputs.iter().enumerate() {
+        for (other, place) in inputs.iter().chain(&outputs[..n]) {
+            if files::same(path, place) {
+                let text = format!(
+                    "{other} and {name} are the same file, {}",
+                    escape::argument(path)
+                );
+                return Err(Problem::usage(args.command, text));
+            }
+        }
+    }
+    Ok(())
+}

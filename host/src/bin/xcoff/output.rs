@@ -1,0 +1,47 @@
+//! What is printed on standard output, and answers of the library as problems.
+
+use crate::escape;
+use crate::problem::Problem;
+use std::io::{self, BufWriter, Write};
+use std::path::Path;
+use xcoff::{Reached, Refusal};
+
+/// Prints; a full disk or a closed pipe is a problem like any other.
+pub fn print(write: impl FnOnce(&mut dyn Write) -> io::Result<()>) -> Result<(), Problem> {
+    let mut out = BufWriter::with_capacity(1 << 16, io::stdout().lock());
+    let done = write(&mut out).and_then(|()| out.flush());
+    // What could not be written is not tried again.
+    let _ = out.into_parts();
+    done.map_err(|e| Problem::system("cannot write standard output", &e))
+}
+
+/// Prints one line.
+pub fn say(line: &str) -> Result<(), Problem> {
+    print(|out| writeln!(out, "{line}"))
+}
+
+/// An answer about one file.
+pub fn refused<T>(path: &Path, answer: Result<T, Refusal>) -> Result<T, Problem> {
+    answer.map_err(|refusal| Problem::Refused {
+        about: escape::argument(path),
+        refusal,
+    })
+}
+
+/// The entry and TOC addresses that a call reached.
+pub fn reached_words(reached: &Reached, digits: usize) -> String {
+    let address = |a: Option<u64>| a.map_or("none".to_string(), |a| format!("{a:0digits$x}"));
+    format!(
+        "entry {}, TOC {}",
+        address(reached.entry),
+        address(reached.toc)
+    )
+}
+
+/// Lines on standard error. Where no one can be told, there is nothing more to do.
+pub fn complain(lines: &[String]) {
+    let mut err = io::stderr().lock();
+    for line in lines {
+        let _ = writeln!(err, "{line}");
+    }
+}

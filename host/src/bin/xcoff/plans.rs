@@ -1,0 +1,280 @@
+//! The commands about plan sheets: `plan` and `sheet`.
+
+use crate::args::{self, Arguments};
+use crate::escape;
+use crate::files;
+use crate::listing::{hex, number, word, Cell, Column, Listing};
+use crate::lists::use_word;
+use crate::load::{apart, Loaded, Sheet};
+use crate::output::{print, reached_words, refused, say};
+use crate::problem::Problem;
+use std::ffi::OsStr;
+use std::io;
+use std::os::unix::ffi::OsStrExt;
+use xcoff::{LoaderRow, Plan};
+
+/// Imports that an error names before it only counts.
+const SHOWN: usize = 12;
+
+pub fn plan(args: &Arguments) -> Result<(), Problem> {
+    let text = address(args, "--text")?;
+    let data = address(args, "--data")?;
+    let given = args
+        .each("--import")
+        .map(|value| Given::parse(args, &value[0]))
+        .collect::<Result<Vec<_>, _>>()?;
+    let out = args.paths("-o").expect("the syntax asks for it")[0];
+    apart(args, &[("SHEET", out)], &[("FILE", args.path(0))])?;
+
+    let file = Loaded::read(args.path(0))?;
+    let symbols = refused(file.path, xcoff::loader_symbol_table(&file.bytes))?;
+    let mut plan = Plan {
+        text: text.unwrap_or(file.module.text.address),
+        data: data.unwrap_or(file.module.data.address),
+        list: symbols.iter().map(|row| row.symbol.value).collect(),
+    };
+    place_imports(args, &given, &symbols, &mut plan.list)?;
+
+    // A sheet that no build would take is of no use: the build itself says so.
+    let (_, reached) = file.build(&plan).map_err(|refusal| Problem::Refused {
+        about: format!("the plan for {}", escape::argument(file.path)),
+        refusal,
+    })?;
+    let sheet = refused(out, xcoff::write_sheet(&plan))?;
+    files::replace(&[(out, &sheet)])?;
+    let d = file.digits();
+    say(&format!(
+        "wrote {} ({} bytes): text {:0d$x}, data {:0d$x}, {} of {} imports given; {}",
+        escape::argument(out),
+        sheet.len(),
+        plan.text,
+        plan.data,
+        given.len(),
+        symbols.iter().filter(|row| takes_address(row)).count(),
+        reached_words(&reached, d),
+    ))
+}
+
+/// Whether a plan's address of the symbol is used.
+fn takes_address(row: &LoaderRow) -> bool {
+    row.symbol.is_import() && !row.symbol.is_deferred()
+}
+
+fn address(args: &Arguments, option: &'static str) -> Result<Option<u64>, Problem> {
+    let Some(value) = args.each(option).next() else {
+        return Ok(None);
+    };
+    hex_value(args, option, value[0].as_bytes()).map(Some)
+}
+
+fn hex_value(args: &Arguments, option: &str, digits: &[u8]) -> Result<u64, Problem> {
+    args::hex(digits).ok_or_else(|| {
+        let shown = escape::argument(OsStr::from_bytes(digits));
+        let text = format!("{option}: {shown} is not a hexadecimal number of at most 64 bits");
+        Problem::usage(args.command, text)
+    })
+}
+
+/// An address for an import, chosen by its name or its loader symbol index.
+struct Given {
+    choice: Choice,
+    shown: String,
+    address: u64,
+}
+
+enum Choice {
+    Index(u64),
+    Name(Vec<u8>),
+}
+
+impl Given {
+    /// NAME=HEX or @INDEX=HEX. The name is written as listings show it; it may hold `=`, the address may not.
+    fn parse(args: &Arguments, value: &OsStr) -> Result<Given, Problem> {
+        let bytes = value.as_bytes();
+        let wrong = |why: &str| {
+            let text = format!("--import {}: {why}", escape::argument(value));
+            Problem::usage(args.command, text)
+        };
+        let Some(at) = bytes.iter().rposition(|&byte| byte == b'=') else {
+            return Err(wrong("it is neither NAME=HEX nor @INDEX=HEX"));
+        };
+        let (name, digits) = (&bytes[..at], &bytes[at + 1..]);
+        let shown = escape::argument(OsStr::from_bytes(name));
+        let address = hex_value(args, &format!("--import {shown}"), digits)?;
+        let choice = match name.strip_prefix(b"@") {
+            Some(index) => {
+                let index = std::str::from_utf8(index).ok().and_then(|i| i.parse().ok());
+                Choice::Index(
+                    index.ok_or_else(|| wrong("after @ comes a loader symbol index in decimal"))?,
+                )
+            }
+            None => {
+                let name = escape::unescape(name);
+                Choice::Name(
+                    name.ok_or_else(|| wrong("a backslash in a name is \\\\ or begins \\xNN"))?,
+                )
+            }
+        };
+        Ok(Given {
+            choice,
+            shown,
+            address,
+        })
+    }
+
+    /// The place in the list of addresses.
+    fn place(&self, symbols: &[LoaderRow]) -> Result<usize, String> {
+        let matches: Vec<&LoaderRow> = symbols
+            .iter()
+            .filter(|row| match &self.choice {
+                Choice::Index(index) => row.index == *index,
+                Choice::Name(name) => row.symbol.is_import() && row.name == name,
+            })
+            .collect();
+        let usable: Vec<&LoaderRow> = matches
+            .iter()
+            .copied()
+            .filter(|row| takes_address(row))
+            .collect();
+        match (usable.as_slice(), matches.first()) {
+            ([one], _) => Ok(one.index as usize - 3),
+            ([], Some(row)) if row.symbol.is_deferred() => Err(format!(
+                "@{} is a deferred import, which has no address in a plan",
+                row.index
+            )),
+            ([], Some(row)) => Err(format!("@{} is not an import", row.index)),
+            ([], None) => Err(format!(
+                "there is no such import; {}",
+                imports_shown(symbols)
+            )),
+            (many, _) => Err(format!(
+                "{} imports have this name: {}; choose one by its index, as in --import @{}=HEX",
+                many.len(),
+                indexes(many),
+                many[0].index
+            )),
+        }
+    }
+}
+
+fn place_imports(
+    args: &Arguments,
+    given: &[Given],
+    symbols: &[LoaderRow],
+    list: &mut [u64],
+) -> Result<(), Problem> {
+    let mut taken = vec![false; list.len()];
+    for import in given {
+        let wrong = |why: String| {
+            let text = format!("--import {}: {why}", import.shown);
+            Problem::usage(args.command, text)
+        };
+        let place = import.place(symbols).map_err(wrong)?;
+        if taken[place] {
+            return Err(wrong(format!("@{} is given twice", place + 3)));
+        }
+        taken[place] = true;
+        list[place] = import.address;
+    }
+    Ok(())
+}
+
+fn imports_shown(symbols: &[LoaderRow]) -> String {
+    let imports: Vec<&LoaderRow> = symbols.iter().filter(|row| takes_address(row)).collect();
+    let shown: Vec<String> = imports
+        .iter()
+        .take(SHOWN)
+        .map(|row| format!("@{} {}", row.index, escape::name(row.name)))
+        .collect();
+    match imports.len() {
+        0 => "the module has none".to_string(),
+        n if n > SHOWN => format!("the module has {} and {} more", shown.join(", "), n - SHOWN),
+        _ => format!("the module has {}", shown.join(", ")),
+    }
+}
+
+fn indexes(rows: &[&LoaderRow]) -> String {
+    let shown: Vec<String> = rows
+        .iter()
+        .take(SHOWN)
+        .map(|row| format!("@{}", row.index))
+        .collect();
+    match rows.len() {
+        n if n > SHOWN => format!("{} and {} more", shown.join(", "), n - SHOWN),
+        _ => shown.join(", "),
+    }
+}
+
+pub fn sheet(args: &Arguments) -> Result<(), Problem> {
+    let sheet = Sheet::read(args.path(0))?;
+    let json = args.has("--json");
+    let Some(path) = args.optional_path(1) else {
+        let digits = sheet_digits(&sheet.plan, 8);
+        return print(|out| {
+            let mut list = Listing::new(out, json);
+            plan_row(&mut list, &sheet.plan, digits)?;
+            list.table("addresses", address_columns(&sheet.plan, digits))?;
+            addresses(&sheet.plan).try_for_each(|(index, address)| list.row(&[index, address]))
+        });
+    };
+    let file = Loaded::read(path)?;
+    let symbols = refused(path, xcoff::loader_symbol_table(&file.bytes))?;
+    file.build_sheet(&sheet)?;
+    let digits = sheet_digits(&sheet.plan, file.digits());
+    let mut columns = address_columns(&sheet.plan, digits);
+    columns.extend([word("use", 8), word("name", 0)]);
+    print(|out| {
+        let mut list = Listing::new(out, json);
+        plan_row(&mut list, &sheet.plan, digits)?;
+        list.table("addresses", columns)?;
+        addresses(&sheet.plan)
+            .zip(&symbols)
+            .try_for_each(|((index, address), row)| {
+                list.row(&[
+                    index,
+                    address,
+                    Cell::Word(use_word(row)),
+                    Cell::Name(row.name),
+                ])
+            })
+    })
+}
+
+/// Of the addresses: as the format has them, or more where a place that is ignored holds more.
+fn sheet_digits(plan: &Plan, least: usize) -> usize {
+    let greatest = plan.list.iter().chain([&plan.text, &plan.data]).max();
+    match greatest {
+        Some(&address) if address >> 32 != 0 => 16,
+        _ => least,
+    }
+}
+
+fn plan_row(list: &mut Listing, plan: &Plan, digits: usize) -> io::Result<()> {
+    let count = plan.list.len() as u64;
+    list.table(
+        "plan",
+        vec![
+            hex("text", digits),
+            hex("data", digits),
+            number("addresses", count),
+        ],
+    )?;
+    list.row(&[
+        Cell::Hex(plan.text),
+        Cell::Hex(plan.data),
+        Cell::Number(count),
+    ])
+}
+
+fn address_columns(plan: &Plan, digits: usize) -> Vec<Column> {
+    vec![
+        number("index", plan.list.len() as u64 + 2),
+        hex("address", digits),
+    ]
+}
+
+fn addresses(plan: &Plan) -> impl Iterator<Item = (Cell<'static>, Cell<'static>)> + '_ {
+    let cells =
+        |(place, address): (usize, &u64)| (Cell::Number(place as u64 + 3), Cell::Hex(*address));
+    plan.list.iter().enumerate().map(cells)
+}

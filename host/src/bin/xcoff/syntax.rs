@@ -1,0 +1,315 @@
+//! The commands: their arguments and their help.
+
+use crate::args::Arguments;
+use crate::problem::Problem;
+use crate::{images, lists, plans};
+
+pub struct Command {
+    pub name: &'static str,
+    /// Arguments as the usage line shows them.
+    pub usage: &'static str,
+    /// Arguments that must be given, in order.
+    pub operands: &'static [&'static str],
+    /// How many more may follow.
+    pub optional: usize,
+    pub options: &'static [Flag],
+    pub summary: &'static str,
+    pub help: &'static str,
+    pub run: fn(&Arguments) -> Result<(), Problem>,
+}
+
+pub struct Flag {
+    pub name: &'static str,
+    pub values: &'static [&'static str],
+    pub required: bool,
+    pub repeated: bool,
+}
+
+const fn flag(name: &'static str, values: &'static [&'static str]) -> Flag {
+    Flag {
+        name,
+        values,
+        required: false,
+        repeated: false,
+    }
+}
+
+const fn required(name: &'static str, values: &'static [&'static str]) -> Flag {
+    Flag {
+        required: true,
+        ..flag(name, values)
+    }
+}
+
+const fn repeated(name: &'static str, values: &'static [&'static str]) -> Flag {
+    Flag {
+        repeated: true,
+        ..flag(name, values)
+    }
+}
+
+static JSON: [Flag; 1] = [flag("--json", &[])];
+
+/// A command that lists a file.
+const fn lister(
+    name: &'static str,
+    summary: &'static str,
+    help: &'static str,
+    run: fn(&Arguments) -> Result<(), Problem>,
+) -> Command {
+    Command {
+        name,
+        usage: "FILE [--json]",
+        operands: &["FILE"],
+        optional: 0,
+        options: &JSON,
+        summary,
+        help,
+        run,
+    }
+}
+
+pub static COMMANDS: [Command; 10] = [
+    lister(
+        "headers",
+        "the file header and the sections",
+        HEADERS,
+        lists::headers,
+    ),
+    lister(
+        "symbols",
+        "the symbol table, with csects",
+        SYMBOLS,
+        lists::symbols,
+    ),
+    lister(
+        "module",
+        "a loadable module and its loader symbols",
+        MODULE,
+        lists::module,
+    ),
+    lister(
+        "imports",
+        "what a module imports, and from where",
+        IMPORTS,
+        lists::imports,
+    ),
+    lister(
+        "relocations",
+        "the fields that a move changes",
+        RELOCATIONS,
+        lists::relocations,
+    ),
+    Command {
+        name: "plan",
+        usage: "FILE [--text HEX] [--data HEX] [--import NAME=HEX]... -o SHEET",
+        operands: &["FILE"],
+        optional: 0,
+        options: &[
+            flag("--text", &["HEX"]),
+            flag("--data", &["HEX"]),
+            repeated("--import", &["NAME=HEX"]),
+            required("-o", &["SHEET"]),
+        ],
+        summary: "writes a plan sheet: the addresses of one card",
+        help: PLAN,
+        run: plans::plan,
+    },
+    Command {
+        name: "sheet",
+        usage: "SHEET [FILE] [--json]",
+        operands: &["SHEET"],
+        optional: 1,
+        options: &JSON,
+        summary: "prints a plan sheet",
+        help: SHEET,
+        run: plans::sheet,
+    },
+    Command {
+        name: "build",
+        usage: "FILE SHEET -o TEXT DATA",
+        operands: &["FILE", "SHEET"],
+        optional: 0,
+        options: &[required("-o", &["TEXT", "DATA"])],
+        summary: "builds the text and data images for a sheet",
+        help: BUILD,
+        run: images::build,
+    },
+    Command {
+        name: "move",
+        usage: "FILE FROM TO TEXT DATA [-o TEXT2 DATA2] [--unchecked]",
+        operands: &["FILE", "FROM", "TO", "TEXT", "DATA"],
+        optional: 0,
+        options: &[flag("-o", &["TEXT2", "DATA2"]), flag("--unchecked", &[])],
+        summary: "moves images from one sheet to another",
+        help: MOVE,
+        run: images::move_images,
+    },
+    Command {
+        name: "check",
+        usage: "FILE SHEET TEXT DATA [--or SHEET]...",
+        operands: &["FILE", "SHEET", "TEXT", "DATA"],
+        optional: 0,
+        options: &[repeated("--or", &["SHEET"])],
+        summary: "says whether images are those of a sheet",
+        help: CHECK,
+        run: images::check,
+    },
+];
+
+impl Command {
+    pub fn named(name: &std::ffi::OsStr) -> Option<&'static Command> {
+        COMMANDS.iter().find(|command| name == command.name)
+    }
+
+    pub fn help_text(&self) -> String {
+        format!("usage: xcoff {} {}\n\n{}", self.name, self.usage, self.help)
+    }
+}
+
+/// Help for the tool as a whole.
+pub fn overview() -> String {
+    let mut text = String::from(OVERVIEW_START);
+    for command in &COMMANDS {
+        text.push_str(&format!("  {:<13}{}\n", command.name, command.summary));
+    }
+    text.push_str(OVERVIEW_END);
+    text
+}
+
+const OVERVIEW_START: &str = "\
+usage: xcoff COMMAND ARGUMENT...
+
+Reads XCOFF modules, builds their text and data images for the addresses of one
+card, and moves images when a memory board is swapped.
+
+";
+
+const OVERVIEW_END: &str = "
+  xcoff COMMAND --help   says more about a command, with an example
+  xcoff --version        prints the version
+
+Exit status: 0 done; 1 refused by a rule, or images that are not the plan's;
+2 a command line that makes no sense; 3 refused by the system (a file that is
+missing or unreadable, a full disk, a closed pipe).
+
+A refusal is a line on standard error with 'refused N I': the number of the rule
+and the item it names, then the rule's name and what it means.
+
+In listings, addresses, types and flags are hexadecimal, sizes, offsets and
+counts decimal. Names are bytes of the file: a blank, a quote or a byte that
+does not print is \\xNN, a backslash \\\\, the empty name \"\"; a name over 256
+bytes is cut and ends in \\... instead. With --json each row is one object.
+";
+
+const HEADERS: &str = "\
+Lists the file header and every section header: the section's number, its kind,
+its two addresses, its size, where its raw data lies in the file and whether
+there is any, and its name.
+
+  xcoff headers diag.xcoff
+
+--json  one object a line
+";
+
+const SYMBOLS: &str = "\
+Lists the symbols in the order of the table. Symbols of class EXT, HIDEXT and
+WEAKEXT have a csect: its type (ER external, SD section, LD label, CM common),
+the log 2 of its alignment, its mapping class, its length in bytes, or of a label
+the index of the csect it lies within. 'bad' is a csect that is refused
+(12 CSECT). Where an entry is refused, those before it are listed and the
+refusal follows, with exit status 1.
+
+  xcoff symbols diag.xcoff
+
+--json  one object a line
+";
+
+const MODULE: &str = "\
+Judges a file as a loadable module, down to its last relocation entry, and lists
+its parts ('image' is the data image: data, zeros up to bss, bss), its entry
+and TOC, and its loader symbols. Of these a plan gives an address to each that is
+used as 'import'; 'deferred' imports and 'defined' symbols need none.
+
+  xcoff module diag.xcoff
+
+--json  one object a line
+";
+
+const IMPORTS: &str = "\
+Lists the import ids (path, base name and archive member of a file that something
+is imported from) and the imported symbols with their recorded values. Id 0 of
+a symbol means a deferred import, which no plan gives an address.
+
+  xcoff imports diag.xcoff
+
+--json  one object a line
+";
+
+const RELOCATIONS: &str = "\
+Lists the relocation entries in the order of the table: the field's recorded
+address, its image and the offset in it, its bits, whether the symbol's address
+is added or subtracted, the type, and the symbol (0 text, 1 data, 2 bss, from 3 a
+loader symbol). Only these fields depend on a plan.
+
+  xcoff relocations diag.xcoff
+
+--json  one object a line
+";
+
+const PLAN: &str = "\
+Writes a plan sheet for a module: where its text, its data and its imports are in
+one card's memory. What is not given is as recorded in the file. A sheet that a
+build would refuse is not written.
+
+  xcoff plan diag.xcoff --text 10000 --data 80000 --import puts=fff01200 -o card7.sheet
+
+--text HEX         the text image's address
+--data HEX         the data image's address; bss moves with it
+--import NAME=HEX  the address of an import, its name as listings show it
+--import @INDEX=HEX  the same, by loader symbol index, where names are ambiguous
+-o SHEET           the sheet to write; an old one is replaced whole
+";
+
+const SHEET: &str = "\
+Prints a plan sheet. With FILE, the module that it is for, also which loader symbol
+each address belongs to; a sheet that does not fit the module is refused.
+
+  xcoff sheet card7.sheet diag.xcoff
+
+--json  one object a line
+";
+
+const BUILD: &str = "\
+Builds a module's text and data images for a plan sheet and writes them to TEXT
+and DATA. Both files are written beside, synced and then renamed, so that neither
+is ever seen half-written; old files are replaced. A symbolic link is followed.
+
+  xcoff build diag.xcoff card7.sheet -o card7.text card7.data
+
+-o TEXT DATA  the files to write
+";
+
+const MOVE: &str = "\
+Moves the images in TEXT and DATA from the plan of the sheet FROM to that of TO, in
+place or, with -o, into other files. FROM must be the sheet that they are for:
+moving images a second time makes wrong ones. So the relocated fields are compared
+with those of FROM first; where they differ the command shows them, changes nothing
+and exits with 1. Other bytes that are not the module's are kept, with a warning.
+
+  xcoff move diag.xcoff card7.sheet card9.sheet card7.text card7.data -o card9.text card9.data
+
+-o TEXT2 DATA2  the files to write; without it TEXT and DATA are replaced
+--unchecked     moves the images whatever they hold
+";
+
+const CHECK: &str = "\
+Compares images with those of a plan. Exit status 0: they are exactly the same.
+Otherwise 1, with the first address where each image differs, and whether at least
+the relocated fields are the plan's. An image of the wrong length is refused.
+
+  xcoff check diag.xcoff card7.sheet card7.text card7.data --or card9.sheet
+
+--or SHEET  another plan that the images may be for; 0 is for any of them, and the
+            line printed says which
+";

@@ -1,0 +1,373 @@
+//! Recorded cases with the answers of an independent reading of the rules (tests/vectors): every case is run through the
+//! library, and its answer, written in the same words, must be the recorded one. tests/vectors/README.md has the form.
+
+use std::collections::BTreeMap;
+use std::fmt::Write;
+use std::path::PathBuf;
+use xcoff::{Anchor, Call, CsectType, Format, Plan, Reached, Refusal};
+
+// ---- the words of a line
+
+/// Bytes: hex digits, and (N) for N zero bytes.
+fn bytes(text: &str) -> Vec<u8> {
+    let mut all = Vec::new();
+    let mut rest = if text == "-" { "" } else { text };
+    while !rest.is_empty() {
+        if let Some(run) = rest.strip_prefix('(') {
+            let (count, after) = run.split_once(')').expect("a closing bracket");
+            all.resize(
+                all.len() + count.parse::<usize>().expect("a number of zeros"),
+                0,
+            );
+            rest = after;
+        } else {
+            all.push(u8::from_str_radix(&rest[..2], 16).expect("hex digits"));
+            rest = &rest[2..];
+        }
+    }
+    all
+}
+
+/// The text of bytes: four or more zero bytes become their number.
+fn hexed(bytes: &[u8]) -> String {
+    let mut text = String::new();
+    let mut at = 0;
+    while at < bytes.len() {
+        let zeros = bytes[at..].iter().take_while(|&&b| b == 0).count();
+        if zeros >= 4 {
+            write!(text, "({zeros})").unwrap();
+            at += zeros;
+        } else {
+            let end = at + zeros.max(1);
+            bytes[at..end]
+                .iter()
+                .for_each(|b| write!(text, "{b:02x}").unwrap());
+            at = end;
+        }
+    }
+    or_dash(text)
+}
+
+fn or_dash(text: String) -> String {
+    if text.is_empty() {
+        "-".into()
+    } else {
+        text
+    }
+}
+
+fn number(text: &str) -> u64 {
+    u64::from_str_radix(text, 16).unwrap_or_else(|_| panic!("{text} is no number"))
+}
+
+/// Addresses between commas, N equal ones as ADDRESS*N.
+fn numbers(text: &str) -> Vec<u64> {
+    let mut all = Vec::new();
+    for part in text.split(',').filter(|&part| part != "-") {
+        let (value, count) = part.split_once('*').unwrap_or((part, "1"));
+        let length = all.len() + count.parse::<usize>().expect("how many");
+        all.resize(length, number(value));
+    }
+    all
+}
+
+fn list_text(list: &[u64]) -> String {
+    let part = |run: &[u64]| match run.len() {
+        1 => format!("{:x}", run[0]),
+        n => format!("{:x}*{n}", run[0]),
+    };
+    or_dash(
+        list.chunk_by(|a, b| a == b)
+            .map(part)
+            .collect::<Vec<_>>()
+            .join(","),
+    )
+}
+
+fn given(answer: Result<String, Refusal>) -> String {
+    answer.unwrap_or_else(|r| format!("refused {} {}", r.number, r.item))
+}
+
+/// A name by its bytes and its place in the file.
+fn name(file: &[u8], name: &[u8]) -> String {
+    if name.is_empty() {
+        return "-".into();
+    }
+    let digits: String = name.iter().map(|b| format!("{b:02x}")).collect();
+    format!(
+        "{digits}@{:x}",
+        name.as_ptr() as usize - file.as_ptr() as usize
+    )
+}
+
+// ---- what is read
+
+fn bits(format: Format) -> u64 {
+    match format {
+        Format::Xcoff32 => 32,
+        Format::Xcoff64 => 64,
+    }
+}
+
+fn opened(file: &[u8]) -> Result<String, Refusal> {
+    let o = xcoff::open(file)?;
+    let mut parts = vec![format!(
+        "{} {:x} {:x} {:x} {:x}",
+        bits(o.format),
+        o.sections,
+        o.symbols,
+        o.opthdr,
+        o.flags
+    )];
+    for n in 1..=o.sections {
+        parts.push(section(file, n)?);
+    }
+    Ok(parts.join(" ; "))
+}
+
+fn section(file: &[u8], n: u64) -> Result<String, Refusal> {
+    let s = xcoff::section(file, n)?;
+    let kind = format!("{:?}", s.kind).to_lowercase();
+    let name = name(file, xcoff::section_name(file, n)?);
+    Ok(format!(
+        "{kind} {:x} {:x} {:x} {:x} {} {name}",
+        s.paddr, s.vaddr, s.size, s.scnptr, s.raw as u64
+    ))
+}
+
+fn symbol(file: &[u8], i: u64) -> Result<String, Refusal> {
+    let s = xcoff::symbol(file, i)?;
+    let name = name(file, xcoff::symbol_name(file, i)?);
+    Ok(format!(
+        "{:x} {} {:x} {:x} {:x} {name}",
+        s.value, s.scnum, s.ntype, s.sclass, s.numaux
+    ))
+}
+
+fn walk(file: &[u8]) -> Result<String, Refusal> {
+    let w = xcoff::walk(file)?;
+    let cause = w.cause.map_or("whole".into(), |r| given(Err(r)));
+    let mut parts = vec![format!("{:x} {:x} {cause}", w.visited, w.end)];
+    let mut i = 0;
+    for _ in 0..w.visited {
+        parts.push(format!("{i:x} {}", symbol(file, i)?));
+        i += 1 + xcoff::symbol(file, i)?.numaux;
+    }
+    Ok(parts.join(" ; "))
+}
+
+fn csect(file: &[u8], i: u64) -> Result<String, Refusal> {
+    let c = xcoff::csect(file, i)?;
+    let kind = match c.kind {
+        CsectType::Er => 0,
+        CsectType::Sd => 1,
+        CsectType::Ld => 2,
+        CsectType::Cm => 3,
+    };
+    Ok(format!(
+        "{:x} {:x} {kind} {:x}",
+        c.length, c.align, c.smclas
+    ))
+}
+
+fn module(file: &[u8]) -> Result<String, Refusal> {
+    let m = xcoff::module(file)?;
+    let part = |p: xcoff::Part| format!("{:x} {:x} {:x}", p.number, p.address, p.size);
+    let anchor = |a: Option<Anchor>| {
+        a.map_or("none".into(), |a| {
+            format!("{:x} {:x}", a.section, a.address)
+        })
+    };
+    let sections = [m.text, m.data, m.bss].map(part).join(" ");
+    let anchors = [m.entry, m.toc].map(anchor).join(" ");
+    let mut parts = vec![format!(
+        "{} {sections} {:x} {:x} {:x} {anchors}",
+        bits(m.format),
+        m.loader,
+        m.image,
+        m.ids
+    )];
+    for i in 3..m.symbols + 3 {
+        parts.push(loader_symbol(file, i)?);
+    }
+    let entries = xcoff::relocation_table(file)?;
+    assert_eq!(entries.len() as u64, m.relocations);
+    for e in entries {
+        let sign = if e.subtracts { "-" } else { "+" };
+        parts.push(format!(
+            "{:x} {:x} {:x} {:x} {sign}{}",
+            e.address,
+            e.symbol,
+            e.rtype,
+            e.scnum,
+            8 * e.width
+        ));
+    }
+    Ok(parts.join(" ; "))
+}
+
+fn loader_symbol(file: &[u8], i: u64) -> Result<String, Refusal> {
+    let s = xcoff::loader_symbol(file, i)?;
+    let name = name(file, xcoff::loader_symbol_name(file, i)?);
+    Ok(format!(
+        "{:x} {:x} {:x} {:x} {:x} {:x} {name}",
+        s.value, s.scnum, s.smtype, s.smclas, s.ifile, s.parm
+    ))
+}
+
+fn import_id(file: &[u8], n: u64) -> Result<String, Refusal> {
+    let strings = [
+        xcoff::import_path(file, n)?,
+        xcoff::import_base(file, n)?,
+        xcoff::import_member(file, n)?,
+    ];
+    Ok(strings.map(|string| name(file, string)).join(" "))
+}
+
+/// The header lister's text, from the library's answers; a newline as |.
+fn listed(file: &[u8]) -> String {
+    if file.len() > 65_536 {
+        return "too long|".into();
+    }
+    let lines = || -> Result<String, Refusal> {
+        let o = xcoff::open(file)?;
+        let digits = bits(o.format) as usize / 4;
+        let mut text = format!("XCOFF{} {} {}|", bits(o.format), o.sections, o.symbols);
+        for n in 1..=o.sections {
+            let s = xcoff::section(file, n)?;
+            let kind = format!("{:?}", s.kind).to_lowercase();
+            write!(text, "{n} {kind} {:0digits$x} {}|", s.paddr, s.size).unwrap();
+        }
+        Ok(text)
+    };
+    lines().unwrap_or_else(|r| given(Err(r)) + "|")
+}
+
+// ---- buffers
+
+type Words<'a> = std::str::Split<'a, char>;
+
+fn next<'a>(words: &mut Words<'a>) -> &'a str {
+    words.next().expect("another word")
+}
+
+fn plan(words: &mut Words) -> Plan {
+    Plan {
+        text: number(next(words)),
+        data: number(next(words)),
+        list: numbers(next(words)),
+    }
+}
+
+/// Builds and moves, one after the other on the same buffers: answer and buffers after each, a dot for one that is as
+/// before. A replay of the whole list must leave the same.
+fn calls(file: &[u8], words: &mut Words) -> String {
+    let before = (bytes(next(words)), bytes(next(words)));
+    let (mut text, mut data) = before.clone();
+    let mut list = Vec::new();
+    let mut parts = Vec::new();
+    while let Some(word) = words.next() {
+        let call = match word {
+            "build" => Call::Build(plan(words)),
+            _ => Call::Move(plan(words), plan(words)),
+        };
+        let (old_text, old_data) = (text.clone(), data.clone());
+        let answer = match &call {
+            Call::Build(p) => xcoff::build_images(file, p, &mut text, &mut data),
+            Call::Move(p, q) => xcoff::move_images(file, p, q, &mut text, &mut data),
+        };
+        let shown = |old: &[u8], new: &[u8]| if old == new { ".".into() } else { hexed(new) };
+        let answer = given(answer.map(reached));
+        parts.push(format!(
+            "{answer} / {} {}",
+            shown(&old_text, &text),
+            shown(&old_data, &data)
+        ));
+        list.push(call);
+    }
+    let (mut replayed_text, mut replayed_data) = before;
+    xcoff::replay(file, &list, &mut replayed_text, &mut replayed_data);
+    assert!(
+        replayed_text == text && replayed_data == data,
+        "a replay leaves something else"
+    );
+    parts.join(" ; ")
+}
+
+fn reached(r: Reached) -> String {
+    [r.entry, r.toc]
+        .map(|a| a.map_or("none".into(), |a| format!("{a:x}")))
+        .join(" ")
+}
+
+fn sheet_read(words: &mut Words) -> String {
+    let (sheet, mut list) = (bytes(next(words)), numbers(next(words)));
+    let answer =
+        xcoff::read_sheet_into(&sheet, &mut list).map(|(text, data)| format!("{text:x} {data:x}"));
+    format!("{} / {}", given(answer), list_text(&list))
+}
+
+fn sheet_write(words: &mut Words) -> String {
+    let (p, mut sheet) = (plan(words), bytes(next(words)));
+    let answer =
+        xcoff::write_sheet_into(p.text, p.data, &p.list, &mut sheet).map(|()| "written".into());
+    format!("{} / {}", given(answer), hexed(&sheet))
+}
+
+// ---- the cases
+
+fn answer(file: &[u8], asked: &str) -> String {
+    let mut words = asked.split(' ');
+    let op = next(&mut words);
+    let index = |words: &mut Words| number(next(words));
+    match op {
+        "open" => given(opened(file)),
+        "section" => given(section(file, index(&mut words))),
+        "symbol" => given(symbol(file, index(&mut words))),
+        "walk" => given(walk(file)),
+        "csect" => given(csect(file, index(&mut words))),
+        "module" => given(module(file)),
+        "loader_symbol" => given(loader_symbol(file, index(&mut words))),
+        "import_id" => given(import_id(file, index(&mut words))),
+        "list" => listed(file),
+        "calls" => calls(file, &mut words),
+        "sheet_read" => sheet_read(&mut words),
+        "sheet_write" => sheet_write(&mut words),
+        _ => panic!("no such operation: {op}"),
+    }
+}
+
+#[test]
+fn every_recorded_case_is_answered_as_recorded() {
+    let path = PathBuf::from(env!("CARGO_MANIFEST_DIR")).join("../tests/vectors/cases.txt");
+    let text = std::fs::read_to_string(&path).unwrap_or_else(|e| panic!("{}: {e}", path.display()));
+    let mut counts: BTreeMap<&str, u64> = BTreeMap::new();
+    let mut differences = Vec::new();
+    let mut file = Vec::new();
+    for (n, line) in text.lines().enumerate() {
+        if let Some(next) = line.strip_prefix("file ") {
+            file = bytes(next);
+            continue;
+        }
+        let (asked, expected) = line.split_once(" = ").expect("a question and its answer");
+        let got = answer(&file, asked);
+        if got != expected {
+            differences.push(format!(
+                "line {}: {asked:.200}: expected {expected:.400}, got {got:.400}",
+                n + 1
+            ));
+        }
+        *counts
+            .entry(asked.split(' ').next().expect("an operation"))
+            .or_default() += 1;
+    }
+    println!("{counts:?}");
+    assert_eq!(counts.values().sum::<u64>(), 3_000);
+    assert_eq!(counts.len(), 12, "{counts:?}");
+    assert!(
+        differences.is_empty(),
+        "{} differences:\n{}",
+        differences.len(),
+        differences.join("\n")
+    );
+}

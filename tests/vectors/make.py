@@ -1,0 +1,178 @@
+#!/usr/bin/env python3
+"""Makes cases.txt of this folder from recorded cases.
+
+usage: make.py CASES.jsonl[.xz]
+
+A line of CASES.jsonl is a JSON object: an operation with its arguments, the file and the answer that an independent
+reading of the rules gives. Of the answer only what the library gives is kept. README.md says what cases.txt looks like.
+"""
+import json
+import lzma
+import os
+import re
+import sys
+
+HERE = os.path.dirname(os.path.abspath(__file__))
+
+
+def hexed(data):
+    """Bytes as hex digits, four or more zero bytes as their number in brackets."""
+    text = re.sub(rb"\0{4,}|[^\0]+|\0{1,3}", piece, data).decode()
+    return text or "-"
+
+
+def piece(found):
+    run = found.group(0)
+    return b"(%d)" % len(run) if run.startswith(b"\0\0\0\0") else run.hex().encode()
+
+
+def bytes_of(text):
+    return hexed(bytes.fromhex(text))
+
+
+def numbers(values):
+    """Addresses; equal neighbours once, with their number."""
+    rows = []
+    for value in values:
+        if rows and rows[-1][0] == value:
+            rows[-1][1] += 1
+        else:
+            rows.append([value, 1])
+    return ",".join("%x" % v if n == 1 else "%x*%d" % (v, n) for v, n in rows) or "-"
+
+
+def words(record, *keys):
+    return " ".join("%x" % record[key] for key in keys)
+
+
+def name(found):
+    return "%s@%x" % (found["bytes"], found["at"]) if found["bytes"] else "-"
+
+
+def refused(answer):
+    return isinstance(answer, dict) and "refused" in answer and "refused %d %d" % tuple(answer["refused"][:2])
+
+
+def section(s):
+    short = bytes.fromhex(s["name"]).split(b"\0")[0].hex()
+    return "%s %s %d %s" % (s["kind"], words(s, "paddr", "vaddr", "size", "scnptr"), s["has_raw"],
+                            name({"bytes": short, "at": s["header_at"]}))
+
+
+def opened(o):
+    head = "%d %s" % (int(o["fmt"][5:]), words(o, "nscns", "nsyms", "opthdr", "flags"))
+    return " ; ".join([head] + [section(s) for s in o["sections"]])
+
+
+def symbol(s):
+    return "%x %d %s %s" % (s["value"], s["scnum"], words(s, "type", "sclass", "numaux"), name(s["name"]))
+
+
+def walk(w):
+    entries = w["entries"]
+    end = entries[-1]["index"] + 1 + entries[-1]["numaux"] if entries else 0
+    cause = refused(w["end"]) if w["end"] else "whole"
+    return " ; ".join(["%x %x %s" % (len(entries), end, cause)] + ["%x %s" % (e["index"], symbol(e)) for e in entries])
+
+
+def loader_symbol(s):
+    return "%s %s" % (words(s, "value", "scnum", "smtype", "smclas", "ifile", "parm"), name(s["name"]))
+
+
+def anchor(m, what):
+    section = m[what + "_section"]
+    return "%x %x" % (section, m[what]) if section else "none"
+
+
+def module(m):
+    head = "%d %s %x %s %s %s" % (
+        int(m["o"]["fmt"][5:]), " ".join(words(m[k], "number", "paddr", "size") for k in ("text", "data", "bss")),
+        m["loader"]["number"], words(m, "data_image_size", "id_count"), anchor(m, "entry"), anchor(m, "toc"))
+    entries = ["%s %s%d" % (words(r, "address", "symbol", "rtype", "scnum"), "-" if r["sign"] < 0 else "+", r["width"])
+               for r in m["relocations"]]
+    return " ; ".join([head] + [loader_symbol(s) for s in m["symbols"]] + entries)
+
+
+def plan(p):
+    return "%x %x %s" % (p["text"], p["data"], numbers(p["imports"]))
+
+
+def reached(answer):
+    return refused(answer) or " ".join("none" if answer[k] is None else "%x" % answer[k] for k in ("entry", "toc"))
+
+
+def images(before, after):
+    """The two buffers, a dot where one is as before."""
+    return " ".join("." if b == a else bytes_of(a) for b, a in zip(before, after))
+
+
+def call(c):
+    if c["call"] == "build":
+        return "build " + plan(c["plan"])
+    return "move %s %s" % (plan(c["from"]), plan(c["to"]))
+
+
+def image_case(case):
+    """A build, a move or a list: all of them are lists of calls here."""
+    lent = case["buffers"]["text"], case["buffers"]["data"]
+    expect = case["expect"]
+    if case["op"] == "module_calls":
+        calls, answers = case["calls"], expect["answer"]
+    else:
+        calls = [dict(case, call=case["op"])]
+        answers = [[expect["answer"], expect["buffers"]["text"], expect["buffers"]["data"]]]
+    parts, before = [], lent
+    for answer, text, data in answers:
+        parts.append("%s / %s" % (reached(answer), images(before, (text, data))))
+        before = text, data
+    asked = " ".join([bytes_of(lent[0]), bytes_of(lent[1])] + [call(c) for c in calls])
+    return "calls %s = %s" % (asked, " ; ".join(parts))
+
+
+def sheet_case(case):
+    answer = case["expect"]["answer"]
+    if case["op"] == "sheet_read":
+        given = refused(answer) or words(answer, "text", "data")
+        return "sheet_read %s %s = %s / %s" % (
+            bytes_of(case["sheet"]), numbers(case["list"]), given, numbers(case["expect"]["list"]))
+    after = case["expect"]["buffers"]["sheet"]
+    return "sheet_write %s %s = %s / %s" % (
+        plan(case["plan"]), bytes_of(case["buffers"]["sheet"]), refused(answer) or "written", bytes_of(after))
+
+
+READ = {
+    "open": opened, "section": section, "symbol": symbol, "walk": walk, "module": module, "loader_symbol": loader_symbol,
+    "csect": lambda c: words(c, "length", "align_log", "type", "smclas"),
+    "import_id": lambda strings: " ".join(name(s) for s in strings),
+    "list": lambda text: text.replace("\n", "|"),
+}
+
+
+def line(case):
+    if case["op"] in ("build", "move", "module_calls"):
+        return image_case(case)
+    if case["op"].startswith("sheet"):
+        return sheet_case(case)
+    answer = case["expect"]["answer"]
+    asked = "%s %x" % (case["op"], case["index"]) if "index" in case else case["op"]
+    return "%s = %s" % (asked, refused(answer) or READ[case["op"]](answer))
+
+
+def main():
+    opener = lzma.open if sys.argv[1].endswith(".xz") else open
+    with opener(sys.argv[1], "rt") as f:
+        cases = [json.loads(text) for text in f]
+    # Cases of one file stand together, so that it is there once.
+    by_file = {}
+    for case in cases:
+        data = bytes.fromhex(case.get("file", ""))
+        by_file.setdefault(hexed(data.ljust(case.get("pad_to", 0), b"\0")), []).append(line(case))
+    with open(os.path.join(HERE, "cases.txt"), "w") as f:
+        for data, lines in by_file.items():
+            f.write("file %s\n" % data)
+            f.write("".join(text + "\n" for text in lines))
+    print(len(cases), "cases,", len(by_file), "files")
+
+
+if __name__ == "__main__":
+    main()
