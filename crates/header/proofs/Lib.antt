@@ -5,5 +5,4 @@ pub mod Sections
 pub mod Symbols
 pub mod Answer
 pub mod Accepted
-pub mod Lookup
 pub mod Figures

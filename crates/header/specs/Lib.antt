@@ -2,5 +2,4 @@
 pub mod Header
 pub mod Tables
 pub mod Open
-pub mod Lookup
 pub mod Inside

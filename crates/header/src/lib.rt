@@ -5,12 +5,9 @@ ghost use Prim.Native.Nat.{_+_, _*_, _≤_, _<_};
 ghost use lib.ListN.{length};
 ghost use Rattle.format.specs.Layout.{headerLayout};
 ghost use Rattle.format.specs.Limit.{fileLimit, sectionLimit};
-ghost use Rattle.refusal.specs.Order.{_orElse_};
-ghost use Rattle.refusal.specs.Part.{rangeBytes};
 ghost use Rattle.header.specs.Header.{headerAt, sectionStart, headerCheck, Bounded, HeaderComplete};
 ghost use Rattle.header.specs.Tables.{blankSection, judgedAt, refusedScan, scanOf, stringsCheck, symbolsCheck, stringsLength, symbolTable};
 ghost use Rattle.header.specs.Open.{refusedBy, openedBy, summaryWith, openAs, openOf, openReport, reportOfOpened};
-ghost use Rattle.header.specs.Lookup.{numberCheck, sectionAt, sectionReport, reportOfSection, sectionNameAt};
 use format::FileOffset;
 use format::FileRange;
 use format::Format;
@@ -19,9 +16,7 @@ use format::SectionKind;
 use format::SectionNumber;
 use format::VirtualAddress;
 use refusal::BoundsItem;
-use refusal::IndexItem;
 use refusal::LimitItem;
-use refusal::RangeAnswer;
 use refusal::Refusal;
 use refusal::Verdict;
 use section::Section;
@@ -106,7 +101,7 @@ fn check_header(file: &[u8], f: Format) -> Verdict
 }
 
 // Where the header of section i + 1 starts.
-fn section_start(f: Format, opthdr: u64, i: u64) -> u64
+pub fn section_start(f: Format, opthdr: u64, i: u64) -> u64
     requires { ⌜ (opthdr ≤ fileLimit) × (i ≤ sectionLimit) ⌝ }
     ensures { λ r. ⌜ r ≡ sectionStart f opthdr i ⌝ }
 {
@@ -341,67 +336,4 @@ pub fn open(file: &[u8]) -> Opened
         MagicAnswer::Unknown => refuse(Verdict::Refused(Refusal::Magic)),
         MagicAnswer::Known(f) => open_as(file, f),
     }
-}
-
-// Opening's refusal, or INDEX where the file has no section `n`.
-fn check_number(v: Verdict, count: u64, n: SectionNumber) -> Verdict
-    ensures { λ r. ⌜ r ≡ (v orElse numberCheck count n) ⌝ }
-{
-    if refusal::refuses(v) {
-        return v;
-    }
-    if n.0 == 0 {
-        return Verdict::Refused(Refusal::Index(IndexItem::NoSection(n)));
-    }
-    if count < n.0 {
-        return Verdict::Refused(Refusal::Index(IndexItem::NoSection(n)));
-    }
-    Verdict::Accepted
-}
-
-// The record of section `n`.
-pub fn section_at(file: &[u8], n: SectionNumber) -> SectionAnswer
-    ensures cause { λ r. ⌜ r ≡ sectionAt (now (file .entry)) n ⌝ }
-    ensures report { λ r. ⌜ reportOfSection r ≡ sectionReport (now (file .entry)) n ⌝ }
-{
-    let o = open(file);
-    let s = o.summary;
-    let opened = o.verdict;
-    let v = check_number(opened, s.count, n);
-    match v {
-        Verdict::Refused(x) => SectionAnswer::Refused(x),
-        Verdict::Accepted => {
-            let i = (n.0 - 1) as usize;
-            let section = s.sections[i];
-            SectionAnswer::Found(section)
-        }
-    }
-}
-
-// Where the name of section `n` lies.
-pub fn section_name_range(file: &[u8], n: SectionNumber) -> RangeAnswer
-    ensures { λ r. ⌜ r ≡ sectionNameAt (now (file .entry)) n ⌝ }
-{
-    let o = open(file);
-    let s = o.summary;
-    let opened = o.verdict;
-    let v = check_number(opened, s.count, n);
-    match v {
-        Verdict::Refused(x) => RangeAnswer::Refused(x),
-        Verdict::Accepted => {
-            let f = s.format;
-            let l = format::section_layout(f);
-            let name = l.name;
-            let base = section_start(f, s.opthdr, n.0 - 1) as usize;
-            RangeAnswer::Found(format::text_in(file, base, name))
-        }
-    }
-}
-
-// The name of section `n`: the very bytes of the file, none on a refusal.
-pub fn section_name<'a>(file: &'a [u8], n: SectionNumber) -> &'a [u8]
-    ensures { λ r. ⌜ now r ≡ rangeBytes (now (file .entry)) (sectionNameAt (now (file .entry)) n) ⌝ }
-{
-    let a = section_name_range(file, n);
-    refusal::part_of(file, a)
 }

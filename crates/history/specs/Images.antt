@@ -7,7 +7,7 @@ use lib.IntN.{ℤ, negℤ}
 use Rattle.update.specs.Update.{addField}
 use Rattle.relocation.specs.declared.FieldPlace.{FieldPlace}
 use Rattle.relocation.specs.Relocation.{bytesWide}
-use Rattle.overlap.specs.Overlap.{Compatible}
+use Rattle.clash.specs.Overlap.{Compatible}
 use Rattle.history.specs.declared.Relocation.{Relocation}
 
 pub record Images : Type 0 where

@@ -1,6 +1,3 @@
 -- The laws that the proofs of this crate's functions cite.
 
-pub mod Bytes
-pub mod Anchors
-pub mod Checks
 pub mod Calls

@@ -1,3 +1,2 @@
 -- What the contracts of `image` cite.
 pub mod Report
-pub mod Reach

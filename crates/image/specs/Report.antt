@@ -1,17 +1,10 @@
 -- The answers of builds and moves in document 01's numbers.
 use Prim.Native.Nat.{ℕ}
-use mathlib.Core.List.{List}
 use Rattle.refusal.specs.Refusal.{numberOf, itemOf}
 use Rattle.history.specs.declared.AnchorAddress.{AnchorAddress}
 use Rattle.history.specs.declared.AnchorAddress.the-variants.{Nowhere, At}
 use Rattle.history.specs.declared.CallAnswer.{CallAnswer}
 use Rattle.history.specs.declared.CallAnswer.the-variants.{Done, Refused}
-use Rattle.history.specs.Plan.{Plan}
-use Rattle.image.specs.declared.Addresses.{Addresses}
-
--- a plan by its two addresses and its list
-abbrev pub planOf : Addresses → List ℕ → Plan
-planOf a list = record { text = a .text .0; dat = a .«data» .0; list = list }
 
 -- 1 and the address, or 0 and 0 where there is none
 abbrev pub present : AnchorAddress → ℕ

@@ -13,15 +13,15 @@ use Rattle.format.specs.Limit.{fileLimit}
 use Rattle.format.specs.Range.{bytesOf}
 use Rattle.refusal.specs.declared.RangeAnswer.the-variants as range
 use Rattle.refusal.specs.declared.Verdict.the-variants as verdict
-use Rattle.loader.specs.declared.LoaderTables.{LoaderTables}
+use Rattle.loader_header.specs.declared.LoaderTables.{LoaderTables}
 use Rattle.loadable.specs.declared.Loadable.{Loadable}
 use Rattle.loadable.specs.declared.LoadableAnswer.the-variants.{Found}
 use Rattle.loadable.specs.Loadable.{loadableAt, reportOfModule, moduleReport}
 use Rattle.loadable.proofs.Accepted.{loadable-valid}
-use Rattle.lookup.specs.declared.ImportString.{ImportString}
-use Rattle.lookup.specs.declared.ImportString.the-variants.{Path, Base, Member}
-use Rattle.lookup.specs.Import.{idCheck, stringStart, stringOf, placeOf, importIn, importAt}
-use Rattle.lookup.proofs.Strings.{next-in, left-all, length-part, strings-few}
+use Rattle.import_id.specs.declared.ImportString.{ImportString}
+use Rattle.import_id.specs.declared.ImportString.the-variants.{Path, Base, Member}
+use Rattle.import_id.specs.Import.{idCheck, stringStart, stringOf, placeOf, importIn, importAt}
+use Rattle.import_id.proofs.Strings.{next-in, left-all, length-part, strings-few}
 use Rattle.rows.specs.Rows.{rowsOf}
 use Rattle.rows.proofs.Laws.{rows-same, rows-three}
 use Rattle.loader_tables.specs.Table.{tableCheck}

@@ -7,8 +7,8 @@ use Rattle.format.specs.declared.FileRange.{FileRange}
 use Rattle.format.specs.Limit.{fileLimit}
 use Rattle.format.specs.Range.{bytesOf}
 use Rattle.loadable.specs.declared.Loadable.{Loadable}
-use Rattle.lookup.specs.declared.ImportString.the-variants.{Path, Base, Member}
-use Rattle.lookup.specs.Import.{stringOf, importAt}
+use Rattle.import_id.specs.declared.ImportString.the-variants.{Path, Base, Member}
+use Rattle.import_id.specs.Import.{stringOf, importAt}
 use Rattle.report.specs.Report.{cRange}
 use Rattle.loader_tables.specs.Table.{Table}
 

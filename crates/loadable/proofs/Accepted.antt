@@ -14,25 +14,25 @@ use Rattle.refusal.specs.declared.Verdict.{Verdict}
 use Rattle.refusal.specs.declared.Verdict.the-variants as verdict
 use Rattle.refusal.specs.Order.{refuseIf}
 use Rattle.refusal.proofs.Order.{accepts, accepted-first, accepted-rest, accepted-test, first-all}
-use Rattle.module.specs.declared.Part.{Part}
-use Rattle.module.specs.declared.Parts.{Parts}
+use Rattle.parts.specs.declared.Part.{Part}
+use Rattle.parts.specs.declared.Parts.{Parts}
 use Rattle.module.specs.declared.Module.{Module}
 use Rattle.module.specs.declared.ModuleAnswer.{ModuleAnswer}
 use Rattle.module.specs.declared.ModuleAnswer.the-variants as module-answer
 use Rattle.module.specs.Module.{moduleAt}
 use Rattle.module.specs.Inside.{PartInside, ModuleInside}
 use Rattle.module.proofs.Accepted.{module-inside}
-use Rattle.loader.specs.declared.LoaderTables.{LoaderTables}
+use Rattle.loader_header.specs.declared.LoaderTables.{LoaderTables}
 use Rattle.loader.specs.declared.LoaderAnswer.{LoaderAnswer}
 use Rattle.loader.specs.declared.LoaderAnswer.the-variants as loader-answer
-use Rattle.loader.specs.Header.{LoaderRoom}
+use Rattle.loader_header.specs.Header.{LoaderRoom}
 use Rattle.loader.specs.Loader.{loaderIn}
 use Rattle.loader.specs.Inside.{LoaderInside}
 use Rattle.loader.proofs.Accepted.{loader-inside}
 use Rattle.relocation.specs.Relocation.{entryIn, ownAt, placeAt, EntriesInside, PlaceInside}
 use Rattle.relocation.proofs.Entries.{place-inside, own-symbol}
-use Rattle.overlap.specs.Overlap.{meets, Readable}
-use Rattle.overlap.proofs.Rule.{meets-none}
+use Rattle.clash.specs.Overlap.{meets, Readable}
+use Rattle.clash.proofs.Rule.{meets-none}
 use Rattle.loadable.specs.declared.Loadable.{Loadable}
 use Rattle.loadable.specs.declared.LoadableAnswer.{LoadableAnswer}
 use Rattle.loadable.specs.declared.LoadableAnswer.the-variants.{Found, Refused}

@@ -16,11 +16,11 @@ use Rattle.refusal.specs.declared.Verdict.the-variants.{Accepted, Refused}
 use Rattle.refusal.specs.Refusal.{isRefused}
 use Rattle.refusal.specs.Order.{_orElse_, refuseIf, firstOf}
 use Rattle.refusal.proofs.Order.{go-on, stop, first-start, first-turn, first-stop, first-end}
-use Rattle.module.specs.declared.Parts.{Parts}
-use Rattle.loader.specs.declared.LoaderTables.{LoaderTables}
+use Rattle.parts.specs.declared.Parts.{Parts}
+use Rattle.loader_header.specs.declared.LoaderTables.{LoaderTables}
 use Rattle.relocation.specs.Relocation.{ownAt, placeAt}
-use Rattle.overlap.specs.Overlap.{meets, First}
-use Rattle.overlap.proofs.Rule.{first-before, first-here}
+use Rattle.clash.specs.Overlap.{meets, First}
+use Rattle.clash.proofs.Rule.{first-before, first-here}
 use Rattle.loadable.specs.Entries.{entryCheck, FirstRefused, verdictAt}
 
 module _ (check : ℕ → Verdict) where

@@ -11,10 +11,10 @@ use Rattle.refusal.specs.declared.Verdict.{Verdict}
 use Rattle.refusal.specs.declared.Verdict.the-variants.{Accepted}
 use Rattle.refusal.specs.Refusal.{isRefused}
 use Rattle.refusal.specs.Order.{_orElse_, refuseIf, firstOf}
-use Rattle.module.specs.declared.Parts.{Parts}
-use Rattle.loader.specs.declared.LoaderTables.{LoaderTables}
+use Rattle.parts.specs.declared.Parts.{Parts}
+use Rattle.loader_header.specs.declared.LoaderTables.{LoaderTables}
 use Rattle.relocation.specs.Relocation.{ownAt, placeAt, EntriesInside}
-use Rattle.overlap.specs.Overlap.{meets}
+use Rattle.clash.specs.Overlap.{meets}
 
 -- entry i: THREAD and LREL, then OVERLAP where its field meets an earlier entry's that isn't the same
 unfoldable pub entryCheck : List ℕ → Format → Parts → LoaderTables → ℕ → Verdict

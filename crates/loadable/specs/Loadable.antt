@@ -10,7 +10,7 @@ use Rattle.module.specs.declared.Module.{Module}
 use Rattle.module.specs.declared.ModuleAnswer.{ModuleAnswer}
 use Rattle.module.specs.declared.ModuleAnswer.the-variants as found
 use Rattle.module.specs.Module.{moduleAt}
-use Rattle.loader.specs.declared.LoaderTables.{LoaderTables}
+use Rattle.loader_header.specs.declared.LoaderTables.{LoaderTables}
 use Rattle.loader.specs.declared.LoaderAnswer.{LoaderAnswer}
 use Rattle.loader.specs.declared.LoaderAnswer.the-variants as loader
 use Rattle.loader.specs.Loader.{loaderIn}

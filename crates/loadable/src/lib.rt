@@ -8,10 +8,10 @@ ghost use Rattle.loadable.specs.Entries.{entriesCheck, FirstRefused, ver
 ghost use Rattle.loadable.specs.Loadable.{loadableBy, loadableIn, loadableAt, reportOfModule, moduleReport};
 use format::Format;
 use loader::LoaderAnswer;
-use loader::LoaderTables;
+use loader_header::LoaderTables;
 use module::Module;
 use module::ModuleAnswer;
-use module::Parts;
+use parts::Parts;
 use refusal::Refusal;
 use refusal::Verdict;
 

@@ -21,30 +21,16 @@ use Rattle.refusal.specs.declared.Verdict.the-variants.{Accepted, Refused}
 use Rattle.refusal.specs.Refusal.{isRefused}
 use Rattle.refusal.specs.Order.{_orElse_, refuseIf}
 use Rattle.refusal.proofs.Order.{test-passed, go-on, stop, accepted-first, accepted-rest, accepted-test, first-all}
-use Rattle.loader.specs.declared.LoaderHeader.{LoaderHeader}
-use Rattle.loader.specs.Header.{loaderHeaderAt, tablePast, numbersCheck, placeOf, tablesOf, placesCheck, headerCheck, LoaderRoom, PlacesGood}
+use Rattle.loader_header.specs.declared.LoaderHeader.{LoaderHeader}
+use Rattle.loader_header.specs.Header.{loaderHeaderAt, tablePast, numbersCheck, placeOf, tablesOf, placesCheck, headerCheck, LoaderRoom, PlacesGood}
 use Rattle.module.specs.declared.Module.{Module}
-use Rattle.loader.specs.declared.LoaderTables.{LoaderTables}
+use Rattle.loader_header.specs.declared.LoaderTables.{LoaderTables}
 use Rattle.loader.specs.declared.LoaderAnswer.{LoaderAnswer}
 use Rattle.loader.specs.declared.LoaderAnswer.the-variants as answer
 use Rattle.loader.specs.Symbol.{TablesInside}
 use Rattle.loader.specs.Loader.{tablesIn, symbolsCheck, loaderCheck, loaderBy, loaderIn}
 use Rattle.loader.specs.Inside.{LoaderInside}
-use Rattle.loader.proofs.Places.{header-long, table-in, place-empty, place-full}
-
--- the answer by the checks that were made
-module _ (file : List ℕ) (f : Format) (start size : ℕ) (l : loaderLayout f .length ≤ size) {h : LoaderHeader} (e : h ≡ loaderHeaderAt f start file) where
-  pub by-numbers : {v : Verdict} → v ≡ numbersCheck h → isRefused v ≡ true → v ≡ headerCheck file f start size
-  unfolding headerCheck
-  by-numbers {v} k r =
-      test-passed _ _ (le-ltb size (loaderLayout f .length) l)
-      (let q : v ≡ numbersCheck (loaderHeaderAt f start file) = rw e at k in rw (← q) (sym (stop v _ r)))
-
-  pub by-places : {v w : Verdict} → v ≡ numbersCheck h → isRefused v ≡ false → w ≡ placesCheck file f start size h → w ≡ headerCheck file f start size
-  unfolding headerCheck
-  by-places {v} {w} k r p =
-      test-passed _ _ (le-ltb size (loaderLayout f .length) l)
-      (let q : v ≡ numbersCheck (loaderHeaderAt f start file) = rw e at k in rw (← q) (rw e at p ∙ sym (go-on v _ r)))
+use Rattle.loader_header.proofs.Places.{header-long, table-in, place-empty, place-full}
 
 -- what an accepted section has
 module _ (file : List ℕ) (f : Format) (start size : ℕ) (e : headerCheck file f start size ≡ Accepted) where

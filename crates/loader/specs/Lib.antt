@@ -1,5 +1,4 @@
 -- What the contracts of `loader` cite.
-pub mod Header
 pub mod Symbol
 pub mod Loader
 pub mod Inside

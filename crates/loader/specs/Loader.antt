@@ -5,10 +5,10 @@ use Rattle.refusal.specs.declared.Verdict.{Verdict}
 use Rattle.refusal.specs.declared.Verdict.the-variants as verdict
 use Rattle.refusal.specs.Order.{_orElse_, firstOf}
 use Rattle.module.specs.declared.Module.{Module}
-use Rattle.loader.specs.declared.LoaderTables.{LoaderTables}
+use Rattle.loader_header.specs.declared.LoaderTables.{LoaderTables}
 use Rattle.loader.specs.declared.LoaderAnswer.{LoaderAnswer}
 use Rattle.loader.specs.declared.LoaderAnswer.the-variants.{Found, Refused}
-use Rattle.loader.specs.Header.{loaderHeaderAt, tablesOf, headerCheck}
+use Rattle.loader_header.specs.Header.{loaderHeaderAt, tablesOf, headerCheck}
 use Rattle.loader.specs.Symbol.{symbolCheck}
 
 -- where the tables of the module m lie

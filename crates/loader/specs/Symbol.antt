@@ -21,8 +21,8 @@ use Rattle.refusal.specs.declared.RangeAnswer.{RangeAnswer}
 use Rattle.refusal.specs.declared.RangeAnswer.the-variants.{Found, Refused}
 use Rattle.refusal.specs.declared.Verdict.{Verdict}
 use Rattle.refusal.specs.Order.{refuseIf}
-use Rattle.module.specs.declared.Parts.{Parts}
-use Rattle.loader.specs.declared.LoaderTables.{LoaderTables}
+use Rattle.parts.specs.declared.Parts.{Parts}
+use Rattle.loader_header.specs.declared.LoaderTables.{LoaderTables}
 use Rattle.loader.specs.declared.LoaderEntry.{LoaderEntry}
 
 -- where the loader symbol with place i in the table starts

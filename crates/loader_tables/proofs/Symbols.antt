@@ -9,7 +9,7 @@ use lib.ListN.{length}
 use Rattle.format.specs.Layout.{loaderSymbolLength}
 use Rattle.refusal.specs.declared.RangeAnswer.{RangeAnswer}
 use Rattle.refusal.specs.declared.Verdict.the-variants as verdict
-use Rattle.loader.specs.declared.LoaderTables.{LoaderTables}
+use Rattle.loader_header.specs.declared.LoaderTables.{LoaderTables}
 use Rattle.loader.specs.Symbol.{entryStart, entryAt, nameIn}
 use Rattle.loader.specs.declared.LoaderEntry.{LoaderEntry}
 use Rattle.loadable.specs.declared.Loadable.{Loadable}

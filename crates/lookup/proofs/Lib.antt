@@ -1,4 +1,3 @@
 -- The laws of look-ups.
 
 pub mod Symbols
-pub mod Strings

@@ -21,9 +21,9 @@ use Rattle.refusal.specs.declared.Verdict.{Verdict}
 use Rattle.refusal.specs.declared.Verdict.the-variants as verdict
 use Rattle.refusal.specs.Part.{Within}
 use Rattle.refusal.proofs.Order.{accepted-test}
-use Rattle.loader.specs.declared.LoaderTables.{LoaderTables}
+use Rattle.loader_header.specs.declared.LoaderTables.{LoaderTables}
 use Rattle.loader.specs.Symbol.{entryStart, stringIn, nameIn, TablesInside}
-use Rattle.loader.proofs.Places.{entry-inside}
+use Rattle.loader_header.proofs.Places.{entry-inside}
 use Rattle.loadable.specs.declared.Loadable.{Loadable}
 use Rattle.loadable.specs.declared.LoadableAnswer.{LoadableAnswer}
 use Rattle.loadable.specs.declared.LoadableAnswer.the-variants as loadable

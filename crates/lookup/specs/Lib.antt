@@ -1,3 +1,2 @@
 -- What the contracts of `lookup` cite.
 pub mod Symbol
-pub mod Import

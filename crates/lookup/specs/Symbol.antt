@@ -12,7 +12,7 @@ use Rattle.refusal.specs.declared.Verdict.the-variants as verdict
 use Rattle.refusal.specs.Order.{refuseIf}
 use Rattle.refusal.specs.Refusal.{numberOf, itemOf}
 use Rattle.loader.specs.declared.LoaderEntry.{LoaderEntry}
-use Rattle.loader.specs.declared.LoaderTables.{LoaderTables}
+use Rattle.loader_header.specs.declared.LoaderTables.{LoaderTables}
 use Rattle.loader.specs.Symbol.{entryStart, entryAt, nameIn}
 use Rattle.loadable.specs.declared.Loadable.{Loadable}
 use Rattle.loadable.specs.declared.LoadableAnswer.{LoadableAnswer}

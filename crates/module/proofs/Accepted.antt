@@ -19,16 +19,16 @@ use Rattle.header.specs.Inside.{Inside}
 use Rattle.header.specs.Open.{openOf}
 use Rattle.header.specs.Tables.{blankSection}
 use Rattle.header.proofs.Accepted.{opened-inside}
-use Rattle.module.specs.declared.AuxHeader.{AuxHeader}
-use Rattle.module.specs.declared.Parts.{Parts}
+use Rattle.auxiliary.specs.declared.AuxHeader.{AuxHeader}
+use Rattle.parts.specs.declared.Parts.{Parts}
 use Rattle.module.specs.declared.Module.{Module}
 use Rattle.module.specs.declared.ModuleAnswer.{ModuleAnswer}
 use Rattle.module.specs.declared.ModuleAnswer.the-variants.{Found, Refused}
-use Rattle.module.specs.Sections.{talliesOf, oneEach, partAt, partsOf, threadCheck}
-use Rattle.module.specs.Auxiliary.{numbersAgree, sizesAgree}
+use Rattle.parts.specs.Sections.{talliesOf, oneEach, partAt, partsOf, threadCheck}
+use Rattle.auxiliary.specs.Auxiliary.{numbersAgree, sizesAgree}
 use Rattle.module.specs.Module.{lacksData, isAnchor, bssBelow, imageLength, partsCheck, auxOf, moduleCheck, moduleWith, moduleBy, moduleIn, moduleBehind, moduleAt}
 use Rattle.module.specs.Inside.{PartInside, ModuleInside}
-use Rattle.module.proofs.Tallied.{each-known}
+use Rattle.parts.proofs.Tallied.{each-known}
 use Rattle.module.proofs.Extent.{bss-after, image-plain, image-bss, parts-image}
 
 -- a section among those of an accepted file, with bytes only where it has raw data

@@ -15,10 +15,10 @@ use Rattle.refusal.proofs.Order.{accepted-first, accepted-rest, accepted-test}
 use Rattle.header.specs.declared.Summary.{Summary}
 use Rattle.header.specs.Header.{sectionStart}
 use Rattle.header.specs.Inside.{Inside}
-use Rattle.module.specs.declared.AuxHeader.{AuxHeader}
-use Rattle.module.specs.declared.Parts.{Parts}
+use Rattle.auxiliary.specs.declared.AuxHeader.{AuxHeader}
+use Rattle.parts.specs.declared.Parts.{Parts}
 use Rattle.module.specs.Module.{lacksData, isAnchor, bssBelow, imageLength, partsCheck}
-use Rattle.module.specs.Auxiliary.{numbersAgree, sizesAgree}
+use Rattle.auxiliary.specs.Auxiliary.{numbersAgree, sizesAgree}
 
 -- a bss that is not empty starts at or after data's end
 pub bss-after : (p : Parts) → bssBelow p ≡ false → (p .bss .size ≡ 0 → ⊥) → p .«data» .address .0 + p .«data» .size ≤ p .bss .address .0

@@ -5,7 +5,7 @@ use mathlib.Core.Bool.{true}
 use mathlib.Core.List.{List}
 use lib.ListN.{length}
 use Rattle.format.specs.Limit.{fileLimit, dataImageLimit}
-use Rattle.module.specs.declared.Part.{Part}
+use Rattle.parts.specs.declared.Part.{Part}
 use Rattle.module.specs.declared.Module.{Module}
 use Rattle.module.specs.Module.{imageLength, isAnchor}
 

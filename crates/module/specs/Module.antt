@@ -16,14 +16,14 @@ use Rattle.refusal.specs.declared.Verdict.the-variants as verdict
 use Rattle.refusal.specs.Order.{_orElse_, refuseIf}
 use Rattle.header.specs.declared.Summary.{Summary}
 use Rattle.header.specs.Open.{openOf}
-use Rattle.module.specs.declared.AuxHeader.{AuxHeader}
-use Rattle.module.specs.declared.Part.{Part}
-use Rattle.module.specs.declared.Parts.{Parts}
+use Rattle.auxiliary.specs.declared.AuxHeader.{AuxHeader}
+use Rattle.parts.specs.declared.Part.{Part}
+use Rattle.parts.specs.declared.Parts.{Parts}
 use Rattle.module.specs.declared.Module.{Module}
 use Rattle.module.specs.declared.ModuleAnswer.{ModuleAnswer}
 use Rattle.module.specs.declared.ModuleAnswer.the-variants.{Found, Refused}
-use Rattle.module.specs.Sections.{talliesOf, oneEach, partsOf, threadCheck}
-use Rattle.module.specs.Auxiliary.{auxAt, numbersAgree, sizesAgree}
+use Rattle.parts.specs.Sections.{talliesOf, oneEach, partsOf, threadCheck}
+use Rattle.auxiliary.specs.Auxiliary.{auxAt, numbersAgree, sizesAgree}
 
 -- a size but no raw data
 unfoldable pub lacksData : Part → Bool

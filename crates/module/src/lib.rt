@@ -1,67 +1,29 @@
 // The loadable module: which section is which, the auxiliary header, and the data image's extent.
 ghost use mathlib.Core.Path.{_≡_};
-ghost use Prim.Native.Nat.{_+_, _*_, _≤_, _<_};
-ghost use mathlib.Core.Bool.{true, false, cond, _&&_, _||_};
-ghost use lib.Dec.{eqb, ltb};
+ghost use Prim.Native.Nat.{_+_, _≤_, _<_};
+ghost use mathlib.Core.Bool.{true, false, _||_};
+ghost use lib.Dec.{ltb};
 ghost use lib.ListN.{length};
 ghost use Rattle.format.specs.Layout.{auxLayout};
-ghost use Rattle.format.specs.Limit.{sectionLimit, dataImageLimit};
-ghost use Rattle.refusal.specs.Order.{_orElse_, firstOf};
+ghost use Rattle.format.specs.Limit.{dataImageLimit};
+ghost use Rattle.refusal.specs.Order.{_orElse_};
 ghost use Rattle.header.specs.Inside.{Inside};
-ghost use Rattle.module.specs.Sections.{tally, talliesOf, oneEach, partAt, partsOf, threadAt, threadCheck};
-ghost use Rattle.module.specs.Auxiliary.{auxAt, numbersAgree, sizesAgree};
+ghost use Rattle.parts.specs.Sections.{tally, talliesOf, oneEach, partsOf, threadCheck};
 ghost use Rattle.module.specs.Module.{lacksData, isAnchor, bssBelow, imageLength, partsCheck, auxOf, moduleWith, moduleBy, moduleIn, moduleAt};
-use format::FileOffset;
+use auxiliary::AuxHeader;
 use format::Format;
 use format::SectionNumber;
 use format::VirtualAddress;
 use header::Summary;
+use parts::Part;
+use parts::Parts;
+use parts::Tallies;
 use refusal::AddressItem;
 use refusal::LimitItem;
 use refusal::ModuleItem;
 use refusal::Refusal;
-use refusal::ThreadItem;
 use refusal::Verdict;
 use section::Section;
-
-// How many sections are of a kind, and the number of the last of them.
-pub struct Tally {
-    pub count: u64,
-    pub last: u64,
-}
-
-// What a module needs of one section.
-pub struct Part {
-    pub number: SectionNumber,
-    pub address: VirtualAddress,
-    pub size: u64,
-    pub start: FileOffset,
-    pub raw: bool,
-}
-
-pub struct Parts {
-    pub text: Part,
-    pub data: Part,
-    pub bss: Part,
-    pub loader: Part,
-}
-
-// The auxiliary header's numbers that a module is judged by.
-pub struct AuxHeader {
-    pub tsize: u64,
-    pub dsize: u64,
-    pub bsize: u64,
-    pub entry: VirtualAddress,
-    pub tstart: VirtualAddress,
-    pub dstart: VirtualAddress,
-    pub toc: VirtualAddress,
-    pub snentry: SectionNumber,
-    pub sntext: SectionNumber,
-    pub sndata: SectionNumber,
-    pub sntoc: SectionNumber,
-    pub snloader: SectionNumber,
-    pub snbss: SectionNumber,
-}
 
 // The entry point or the TOC anchor: its section, 0 for none, and its recorded address.
 pub struct Anchor {
@@ -83,232 +45,6 @@ pub enum ModuleAnswer {
     Refused(Refusal),
 }
 
-// One section more, of the kind that is counted or of another.
-fn tally_step(t: Tally, hit: bool, i: u64) -> Tally
-    requires { ⌜ (t .count ≤ i) × (i < sectionLimit) ⌝ }
-    ensures { λ r. ⌜ r ≡ cond hit (record { count = t .count + 1; last = i + 1 }) t ⌝ }
-{
-    if hit {
-        return Tally {
-            count: t.count + 1,
-            last: i + 1,
-        };
-    }
-    t
-}
-
-fn tally_kind(sections: [Section; 32], flag: u64, count: u64) -> Tally
-    requires { ⌜ count ≤ sectionLimit ⌝ }
-    ensures { λ r. ⌜ r ≡ tally sections flag count ⌝ }
-{
-    let mut t = Tally { count: 0, last: 0 };
-    let mut i: u64 = 0;
-    while i < count {
-        let s = sections[i as usize];
-        let k = s.kind;
-        t = tally_step(t, format::flag_of(k) == flag, i);
-        i += 1;
-    }
-    t
-}
-
-fn part_at(sections: [Section; 32], n: u64) -> Part
-    requires { ⌜ (0 < n) × (n ≤ sectionLimit) ⌝ }
-    ensures { λ r. ⌜ r ≡ partAt sections n ⌝ }
-{
-    let i = (n - 1) as usize;
-    let s = sections[i];
-    let address = s.vaddr;
-    let start = s.scnptr;
-    Part {
-        number: SectionNumber(n),
-        address,
-        size: s.size,
-        start,
-        raw: s.raw,
-    }
-}
-
-// How many sections of each kind that a module has one of.
-pub struct Tallies {
-    pub text: Tally,
-    pub data: Tally,
-    pub bss: Tally,
-    pub loader: Tally,
-}
-
-fn tally_all(y: Summary) -> Tallies
-    requires { ⌜ y .count ≤ sectionLimit ⌝ }
-    ensures { λ r. ⌜ r ≡ talliesOf y ⌝ }
-{
-    let sections = y.sections;
-    let count = y.count;
-    Tallies {
-        text: tally_kind(sections, 0x0020, count),
-        data: tally_kind(sections, 0x0040, count),
-        bss: tally_kind(sections, 0x0080, count),
-        loader: tally_kind(sections, 0x1000, count),
-    }
-}
-
-fn has_one_each(t: Tallies) -> bool
-    ensures { λ r. ⌜ r ≡ oneEach t ⌝ }
-{
-    let text = t.text;
-    let data = t.data;
-    let bss = t.bss;
-    let loader = t.loader;
-    if text.count != 1 {
-        return false;
-    }
-    if data.count != 1 {
-        return false;
-    }
-    if bss.count != 1 {
-        return false;
-    }
-    loader.count == 1
-}
-
-fn find_parts(y: Summary, t: Tallies) -> Parts
-    requires { ⌜ (y .count ≤ sectionLimit) × (t ≡ talliesOf y) × (oneEach t ≡ true) ⌝ }
-    ensures { λ r. ⌜ r ≡ partsOf y ⌝ }
-{
-    let sections = y.sections;
-    let text = t.text;
-    let data = t.data;
-    let bss = t.bss;
-    let loader = t.loader;
-    Parts {
-        text: part_at(sections, text.last),
-        data: part_at(sections, data.last),
-        bss: part_at(sections, bss.last),
-        loader: part_at(sections, loader.last),
-    }
-}
-
-fn is_thread(k: u64) -> bool
-    ensures { λ r. ⌜ r ≡ (eqb k 0x0400 || eqb k 0x0800) ⌝ }
-{
-    if k == 0x0400 {
-        return true;
-    }
-    k == 0x0800
-}
-
-// THREAD with the first tdata or tbss section.
-fn check_thread(sections: [Section; 32], count: u64) -> Verdict
-    requires { ⌜ count ≤ sectionLimit ⌝ }
-    ensures { λ r. ⌜ r ≡ firstOf (threadAt sections) 0 count ⌝ }
-{
-    let mut i: u64 = 0;
-    while i < count {
-        let s = sections[i as usize];
-        let k = s.kind;
-        if is_thread(format::flag_of(k)) {
-            return Verdict::Refused(Refusal::Thread(ThreadItem::ThreadSection(SectionNumber(
-                i + 1,
-            ))));
-        }
-        i += 1;
-    }
-    Verdict::Accepted
-}
-
-fn read_aux(file: &[u8], f: Format, base: usize) -> AuxHeader
-    requires { ⌜ base + auxLayout f .length ≤ length (now file) ⌝ }
-    ensures { λ r. ⌜ r ≡ auxAt f base (now (file .entry)) ⌝ }
-{
-    let l = format::aux_layout(f);
-    let tsize = l.tsize;
-    let dsize = l.dsize;
-    let bsize = l.bsize;
-    let entry = l.entry;
-    let tstart = l.tstart;
-    let dstart = l.dstart;
-    let toc = l.toc;
-    let n = format::aux_numbers();
-    let snentry = n.snentry;
-    let sntext = n.sntext;
-    let sndata = n.sndata;
-    let sntoc = n.sntoc;
-    let snloader = n.snloader;
-    let snbss = n.snbss;
-    AuxHeader {
-        tsize: word::read_field(file, base, tsize),
-        dsize: word::read_field(file, base, dsize),
-        bsize: word::read_field(file, base, bsize),
-        entry: VirtualAddress(word::read_field(file, base, entry)),
-        tstart: VirtualAddress(word::read_field(file, base, tstart)),
-        dstart: VirtualAddress(word::read_field(file, base, dstart)),
-        toc: VirtualAddress(word::read_field(file, base, toc)),
-        snentry: SectionNumber(word::read_field(file, base, snentry)),
-        sntext: SectionNumber(word::read_field(file, base, sntext)),
-        sndata: SectionNumber(word::read_field(file, base, sndata)),
-        sntoc: SectionNumber(word::read_field(file, base, sntoc)),
-        snloader: SectionNumber(word::read_field(file, base, snloader)),
-        snbss: SectionNumber(word::read_field(file, base, snbss)),
-    }
-}
-
-fn same_section(a: SectionNumber, p: Part) -> bool
-    ensures { λ r. ⌜ r ≡ eqb (a .0) (p .number .0) ⌝ }
-{
-    let n = p.number;
-    a.0 == n.0
-}
-
-fn do_numbers_agree(p: Parts, a: AuxHeader) -> bool
-    ensures { λ r. ⌜ r ≡ numbersAgree p a ⌝ }
-{
-    let text = p.text;
-    let data = p.data;
-    let bss = p.bss;
-    let loader = p.loader;
-    let sntext = a.sntext;
-    let sndata = a.sndata;
-    let snbss = a.snbss;
-    let snloader = a.snloader;
-    if !same_section(sntext, text) {
-        return false;
-    }
-    if !same_section(sndata, data) {
-        return false;
-    }
-    if !same_section(snbss, bss) {
-        return false;
-    }
-    same_section(snloader, loader)
-}
-
-// Whether an auxiliary header's size and start are those of the section.
-fn same_extent(size: u64, start: VirtualAddress, p: Part) -> bool
-    ensures { λ r. ⌜ r ≡ (eqb size (p .size) && eqb (start .0) (p .address .0)) ⌝ }
-{
-    let address = p.address;
-    if size != p.size {
-        return false;
-    }
-    start.0 == address.0
-}
-
-fn do_sizes_agree(p: Parts, a: AuxHeader) -> bool
-    ensures { λ r. ⌜ r ≡ sizesAgree p a ⌝ }
-{
-    let text = p.text;
-    let data = p.data;
-    let bss = p.bss;
-    let tstart = a.tstart;
-    let dstart = a.dstart;
-    if !same_extent(a.tsize, tstart, text) {
-        return false;
-    }
-    if !same_extent(a.dsize, dstart, data) {
-        return false;
-    }
-    a.bsize == bss.size
-}
-
 fn lacks_data(p: Part) -> bool
     ensures { λ r. ⌜ r ≡ lacksData p ⌝ }
 {
@@ -326,10 +62,10 @@ fn is_anchor(p: Parts, n: SectionNumber) -> bool
     if n.0 == 0 {
         return true;
     }
-    if same_section(n, text) {
+    if auxiliary::same_section(n, text) {
         return true;
     }
-    same_section(n, data)
+    auxiliary::same_section(n, data)
 }
 
 // Whether a bss that is not empty starts below the end of data.
@@ -399,10 +135,10 @@ fn check_parts(p: Parts, a: AuxHeader) -> Verdict
     let n = bss.number;
     let snentry = a.snentry;
     let sntoc = a.sntoc;
-    if !do_numbers_agree(p, a) {
+    if !auxiliary::do_numbers_agree(p, a) {
         return Verdict::Refused(Refusal::Module(ModuleItem::AuxHeaderDiffers));
     }
-    if !do_sizes_agree(p, a) {
+    if !auxiliary::do_sizes_agree(p, a) {
         return Verdict::Refused(Refusal::Module(ModuleItem::AuxHeaderDiffers));
     }
     if any_lacks_data(p) {
@@ -452,14 +188,14 @@ fn join_parts(file: &[u8], y: Summary, t: Tallies) -> ModuleAnswer
     ensures { λ r. ⌜ r ≡ moduleBy (threadCheck y orElse partsCheck (partsOf y) (auxOf (now (file .entry)) y)) (moduleWith (y .format) (partsOf y) (auxOf (now (file .entry)) y)) ⌝ }
 {
     let sections = y.sections;
-    let v = check_thread(sections, y.count);
+    let v = parts::check_thread(sections, y.count);
     if let Verdict::Refused(x) = v {
         return ModuleAnswer::Refused(x);
     }
     let f = y.format;
     let l = format::header_layout(f);
-    let a = read_aux(file, f, l.length);
-    let p = find_parts(y, t);
+    let a = auxiliary::read_aux(file, f, l.length);
+    let p = parts::find_parts(y, t);
     let w = check_parts(p, a);
     match w {
         Verdict::Refused(x) => ModuleAnswer::Refused(x),
@@ -477,8 +213,8 @@ fn module_in(file: &[u8], y: Summary) -> ModuleAnswer
     if y.opthdr < l.length {
         return ModuleAnswer::Refused(Refusal::Module(ModuleItem::ShortAuxHeader));
     }
-    let t = tally_all(y);
-    if has_one_each(t) {
+    let t = parts::tally_all(y);
+    if parts::has_one_each(t) {
         return join_parts(file, y, t);
     }
     ModuleAnswer::Refused(Refusal::Module(ModuleItem::SectionSet))

@@ -1,7 +1,7 @@
 -- The laws of the cells. Assumes nothing.
 use mathlib.Core.Path.{_≡_, refl, sym, _∙_, ap, ap₂, subst}
 use mathlib.Core.Logic.{_⊎_, inl, inr, ⊎-elim}
-use mathlib.Core.Bool.{Bool, true, false, not, cond}
+use mathlib.Core.Bool.{Bool, true, false, not}
 use mathlib.Core.List.{List}
 use Prim.Native.Nat.{ℕ, zero, suc, _+_, _-_, _≤_, _<_}
 use native.Mathlib.Decide.{decLt, decLe, ℕ-discrete}
@@ -11,18 +11,14 @@ use lib.ListN.{length, getD, set, length-set, List·getD-eq-default}
 use lib.Seq.{getD-set-same, getD-set-other}
 use borrow.Author.Tests.{le-leb, lt-leb, lt-ltb, le-ltb}
 use Rattle.format.specs.declared.Format.{Format}
-use Rattle.module.specs.declared.Parts.{Parts}
-use Rattle.loader.specs.declared.LoaderTables.{LoaderTables}
+use Rattle.parts.specs.declared.Parts.{Parts}
+use Rattle.loader_header.specs.declared.LoaderTables.{LoaderTables}
 use Rattle.relocation.specs.declared.FieldPlace.{FieldPlace}
 use Rattle.relocation.specs.Relocation.{bytesWide, placeAt}
-use Rattle.overlap.specs.Overlap.{sameBool, Meets, First, Readable}
+use Rattle.clash.proofs.Readable.{sizeOf, room}
+use Rattle.clash.proofs.Rule.{no-true, no-false, same-true, same-refl}
+use Rattle.clash.specs.Overlap.{sameBool, Meets, First, Readable}
 use Rattle.overlap.specs.Cells.{code, Taken, Stored, ByteOut, Marked, Free, MarkOut, cover, Hit, CellsAre, StepOut, Untouched, LowerOut, PassOut, NoHitAt, HitSomewhere, SweepOut}
-
-pub no-true : {A : Type 0} → false ≡ true → A
-no-true e = let z : _≡_ {A = ℕ} 0 1 = cc in absurd (omega arith)
-
-pub no-false : {A : Type 0} → true ≡ false → A
-no-false e = no-true (sym e)
 
 module _ (base k v : ℕ) (c : List ℕ) where
   pub byte-below : k < base → ByteOut base k v c c false
@@ -125,18 +121,6 @@ module _ (base offset : ℕ) (wide : Bool) (c₀ : List ℕ) where
   mark-end c m f = record { size = m .size; hit = no-true; miss = λ e. (f, m) }
 
 -- ---- entries
-
-pub same-true : (a b : Bool) → sameBool a b ≡ true → a ≡ b
-same-true true true e = refl
-same-true true false e = no-true e
-same-true false true e = no-true e
-same-true false false e = refl
-
-pub same-refl : (a b : Bool) → a ≡ b → sameBool a b ≡ true
-same-refl true true e = refl
-same-refl true false e = no-false e
-same-refl false true e = no-true e
-same-refl false false e = refl
 
 module _ (r : ℕ → FieldPlace) (t : Bool) where
   cover-in : (i k : ℕ) → r i .text ≡ t → r i .offset ≤ k → k < r i .offset + bytesWide (r i .wide)
@@ -372,10 +356,6 @@ zero-end c h x = go (decLt x (length c))
     go (yes l) = h x l
     go (no l) = List·getD-eq-default c 0 (omega arith)
 
-pub bytes-few : (b : Bool) → bytesWide b ≤ 8
-bytes-few true = omega arith
-bytes-few false = omega arith
-
 pub byte-as : {base k v v′ : ℕ} {c c′ : List ℕ} {r r′ : Bool} → v ≡ v′ → r ≡ r′ → ByteOut base k v c c′ r → ByteOut base k v′ c c′ r′
 byte-as {base} {k} {v} {v′} {c} {c′} {r} {r′} p q b = subst (λ (x : Bool). ByteOut base k v′ c c′ x) q (subst (λ (x : ℕ). ByteOut base k x c c′ r) p b)
 
@@ -520,34 +500,7 @@ lower-other e t end next false h q n = record { low = h; high = omega arith; non
 
 -- ---- the entries of a file
 
--- the bytes of the section that a field is in
-abbrev sizeOf : Parts → Bool → ℕ
-sizeOf p text = cond text (p .text .size) (p .«data» .size)
-
 module _ (file : List ℕ) (f : Format) (p : Parts) (t : LoaderTables) where
-  room : (n i : ℕ) → Readable file f p t n → i < n
-      → placeAt file f p t i .offset + bytesWide (placeAt file f p t i .wide) ≤ sizeOf p (placeAt file f p t i .text)
-  room n i v l = v .inside i l .inside
-
-  size-small : (n : ℕ) → Readable file f p t n → (text : Bool) → sizeOf p text ≤ 16777216
-  size-small n v true = v .textSize
-  size-small n v false = v .dataSize
-
-  pub offset-small : (n i : ℕ) (e : FieldPlace) → Readable file f p t n → i < n → e ≡ placeAt file f p t i → e .offset ≤ 16777216
-  offset-small n i e v l q =
-      omega (arith, room n i v l, size-small n v (placeAt file f p t i .text), ap (λ (x : FieldPlace). x .offset) q)
-
-  pub readable-less : (k n : ℕ) → k ≤ n → Readable file f p t n → Readable file f p t k
-  readable-less k n h v =
-      record {
-        entries = v .entries;
-        few = omega (arith, v .few);
-        accepted = λ i l. v .accepted i (omega arith);
-        inside = λ i l. v .inside i (omega arith);
-        textSize = v .textSize;
-        dataSize = v .dataSize;
-      }
-
   pub sections-first : (n a x : ℕ) → Readable file f p t n → SweepOut (placeAt file f p t) true (p .text .size) n a
       → SweepOut (placeAt file f p t) false (p .«data» .size) a x → First (placeAt file f p t) n x
   sections-first n a x v y z =
@@ -556,10 +509,10 @@ module _ (file : List ℕ) (f : Format) (p : Parts) (t : LoaderTables) where
     where
       in-text : (i : ℕ) → i < n → (b : Bool) → placeAt file f p t i .text ≡ b
           → (placeAt file f p t i .offset + bytesWide (placeAt file f p t i .wide) ≤ p .text .size) ⊎ (placeAt file f p t i .text ≡ true → ⊥)
-      in-text i l true e = inl (omega (arith, room n i v l, ap (sizeOf p) e))
+      in-text i l true e = inl (omega (arith, room file f p t n i v l, ap (sizeOf p) e))
       in-text i l false e = inr (λ h. no-true (sym e ∙ h))
 
       in-data : (i : ℕ) → i < n → (b : Bool) → placeAt file f p t i .text ≡ b
           → (placeAt file f p t i .offset + bytesWide (placeAt file f p t i .wide) ≤ p .«data» .size) ⊎ (placeAt file f p t i .text ≡ false → ⊥)
       in-data i l true e = inr (λ h. no-false (sym e ∙ h))
-      in-data i l false e = inl (omega (arith, room n i v l, ap (sizeOf p) e))
+      in-data i l false e = inl (omega (arith, room file f p t n i v l, ap (sizeOf p) e))

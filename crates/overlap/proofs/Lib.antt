@@ -1,4 +1,3 @@
--- The laws of the cells, and of the rule for the crates above.
+-- The laws of the cells.
 
 pub mod CellLaws
-pub mod Rule

@@ -8,7 +8,7 @@ use lib.ListN.{length, getD}
 use lib.Dec.{leb, ltb}
 use Rattle.relocation.specs.declared.FieldPlace.{FieldPlace}
 use Rattle.relocation.specs.Relocation.{bytesWide}
-use Rattle.overlap.specs.Overlap.{sameBool}
+use Rattle.clash.specs.Overlap.{sameBool}
 
 -- the value of the byte at place p of a field: no two places of fields, and no two widths, have one value
 abbrev pub code : Bool → ℕ → ℕ

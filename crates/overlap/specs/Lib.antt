@@ -1,3 +1,2 @@
 -- What the contracts of `overlap` cite.
-pub mod Overlap
 pub mod Cells

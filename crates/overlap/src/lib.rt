@@ -1,14 +1,14 @@
-// Overlapping fields, found in one pass over the entries for each window of a section that has a field.
+// Overlapping fields: none where the entries ascend; otherwise found in one pass over them for each window of a section that has a field.
 ghost use mathlib.Core.Path.{_≡_};
 ghost use Prim.Native.Nat.{_+_, _≤_, _<_};
 ghost use lib.ListN.{length};
 ghost use Rattle.format.specs.Limit.{fileLimit};
-ghost use Rattle.relocation.specs.Relocation.{bytesWide, placeAt};
-ghost use Rattle.overlap.specs.Overlap.{sameBool, First, Readable};
+ghost use Rattle.relocation.specs.Relocation.{placeAt};
+ghost use Rattle.clash.specs.Overlap.{sameBool, First, Readable};
 ghost use Rattle.overlap.specs.Cells.{code, ByteOut, MarkOut, Zeros, EntryOut, LowerOut, PassOut, SweepOut};
 use format::Format;
-use loader::LoaderTables;
-use module::Parts;
+use loader_header::LoaderTables;
+use parts::Parts;
 use relocation::FieldPlace;
 
 // What a pass found, and where the next window may start.
@@ -24,12 +24,6 @@ fn code_of(wide: bool, place: u64) -> u8
 {
     let q = (place % 8) as u8;
     if wide { 9 + q } else { 1 + q }
-}
-
-fn bytes_wide(wide: bool) -> u64
-    ensures { λ r. ⌜ r ≡ bytesWide wide ⌝ }
-{
-    if wide { 8 } else { 4 }
 }
 
 // Stores `v` for the byte `k` of the window from `base`, unless another value stands there: then the answer is true.
@@ -59,7 +53,7 @@ fn mark(cells: &mut [u8], base: u64, offset: u64, wide: bool) -> bool
     requires { ⌜ offset ≤ fileLimit ⌝ }
     ensures { λ r. ⌜ MarkOut base offset wide (now (cells .entry)) (now (cells .exit)) r ⌝ }
 {
-    let w = bytes_wide(wide);
+    let w = clash::bytes_wide(wide);
     let mut place = 0;
     while place < w {
         let v = code_of(wide, place);
@@ -108,7 +102,7 @@ fn lower(e: FieldPlace, text: bool, end: u64, next: u64) -> u64
     if !same_section(e.text, text) {
         return next;
     }
-    if e.offset + bytes_wide(e.wide) <= end {
+    if e.offset + clash::bytes_wide(e.wide) <= end {
         return next;
     }
     if next <= e.offset {
@@ -197,11 +191,23 @@ fn space() -> [u8; 262144]
     [0; 262144]
 }
 
-// The first of `n` entries whose field meets an earlier one that is not the same field, or `n`.
-pub fn first_overlap(file: &[u8], f: Format, p: Parts, t: LoaderTables, n: u64) -> u64
+// The same as `first_overlap`, by the windows alone.
+fn sweep_windows(file: &[u8], f: Format, p: Parts, t: LoaderTables, n: u64) -> u64
     requires { ⌜ Readable (now file) f p t n ⌝ }
     ensures { λ r. ⌜ First (placeAt (now (file .entry)) f p t) n r ⌝ }
 {
     let mut cells = space();
     sweep_both(file, f, p, t, n, &mut cells)
+}
+
+// The first of `n` entries whose field meets an earlier one that is not the same field, or `n`.
+// Entries in ascending order, as linkers write them, need no window.
+pub fn first_overlap(file: &[u8], f: Format, p: Parts, t: LoaderTables, n: u64) -> u64
+    requires { ⌜ Readable (now file) f p t n ⌝ }
+    ensures { λ r. ⌜ First (placeAt (now (file .entry)) f p t) n r ⌝ }
+{
+    if clash::are_ascending(file, f, p, t, n) {
+        return n;
+    }
+    sweep_windows(file, f, p, t, n)
 }

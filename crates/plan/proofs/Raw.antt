@@ -6,7 +6,7 @@ use native.Mathlib.Decide.{decLt}
 use native.Mathlib.Omega.{arith}
 use lib.ListN.{length, take, drop, replicate, length-append, length-replicate}
 use Rattle.word.proofs.Number.{length-field}
-use Rattle.module.specs.declared.Part.{Part}
+use Rattle.parts.specs.declared.Part.{Part}
 use Rattle.module.specs.Inside.{PartInside}
 use Rattle.loadable.specs.declared.Loadable.{Loadable}
 use Rattle.loadable.specs.Valid.{Valid}

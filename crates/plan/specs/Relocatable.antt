@@ -13,7 +13,7 @@ use Rattle.refusal.specs.declared.Refusal.{Refusal}
 use Rattle.refusal.specs.declared.Verdict.the-variants as verdict
 use Rattle.module.specs.declared.Anchor.{Anchor}
 use Rattle.module.specs.declared.Module.{Module}
-use Rattle.module.specs.declared.Parts.{Parts}
+use Rattle.parts.specs.declared.Parts.{Parts}
 use Rattle.loader.specs.declared.LoaderEntry.{LoaderEntry}
 use Rattle.loader.specs.Symbol.{entryAt, isImported}
 use Rattle.relocation.specs.Relocation.{entryIn, placeAt, subtracts}

@@ -19,9 +19,9 @@ use Rattle.format.proofs.Layouts.{FieldInside}
 use Rattle.refusal.specs.declared.Verdict.the-variants.{Accepted}
 use Rattle.refusal.specs.Order.{refuseIf}
 use Rattle.refusal.proofs.Order.{accepted-rest, accepted-test}
-use Rattle.module.specs.declared.Part.{Part}
-use Rattle.module.specs.declared.Parts.{Parts}
-use Rattle.loader.specs.declared.LoaderTables.{LoaderTables}
+use Rattle.parts.specs.declared.Part.{Part}
+use Rattle.parts.specs.declared.Parts.{Parts}
+use Rattle.loader_header.specs.declared.LoaderTables.{LoaderTables}
 use Rattle.relocation.specs.declared.RelocationEntry.{RelocationEntry}
 use Rattle.relocation.specs.Relocation.{isThread, isType, isWidth, widthBits, bytesWide, isWide, isInside, isHeld, isGood, ownCheck, placeOf, entryIn, ownAt, PlaceInside}
 

@@ -3,7 +3,7 @@ use mathlib.Core.Path.{_≡_, refl}
 use mathlib.Core.Bool.{true, false}
 use mathlib.Core.List.{[], _∷_, map}
 use Rattle.format.specs.declared.Format.the-variants.{Xcoff32, Xcoff64}
-use Rattle.module.specs.declared.Part.{Part}
+use Rattle.parts.specs.declared.Part.{Part}
 use Rattle.relocation.specs.Relocation.{isWidth, widthBits, subtracts, isInside}
 
 -- P7: type 3F01 subtracts, and is 64 bits wide

@@ -14,9 +14,9 @@ use Rattle.refusal.specs.declared.Refusal.the-variants.{Thread, Lrel}
 use Rattle.refusal.specs.declared.ThreadItem.the-variants.{ThreadSymbol}
 use Rattle.refusal.specs.declared.Verdict.{Verdict}
 use Rattle.refusal.specs.Order.{_orElse_, refuseIf}
-use Rattle.module.specs.declared.Part.{Part}
-use Rattle.module.specs.declared.Parts.{Parts}
-use Rattle.loader.specs.declared.LoaderTables.{LoaderTables}
+use Rattle.parts.specs.declared.Part.{Part}
+use Rattle.parts.specs.declared.Parts.{Parts}
+use Rattle.loader_header.specs.declared.LoaderTables.{LoaderTables}
 use Rattle.relocation.specs.declared.RelocationEntry.{RelocationEntry}
 use Rattle.relocation.specs.declared.FieldPlace.{FieldPlace}
 

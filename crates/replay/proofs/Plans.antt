@@ -7,8 +7,8 @@ use lib.ListN.{length, getD, take, drop}
 use Rattle.history.specs.Images.{Images}
 use Rattle.history.specs.Plan.{Plan, Relocatable}
 use Rattle.history.specs.Call.{Call, build, effect}
-use Rattle.image.specs.declared.Addresses.{Addresses}
-use Rattle.image.specs.Report.{planOf}
+use Rattle.displacement.specs.declared.Addresses.{Addresses}
+use Rattle.displacement.specs.Reach.{planOf}
 use Rattle.replay.specs.Script.{planEnd, planAt}
 use Rattle.replay.proofs.Ends.{plan-fits}
 

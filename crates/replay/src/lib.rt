@@ -7,9 +7,9 @@ ghost use Rattle.history.specs.Call.{Call, build, effect};
 ghost use Rattle.history.specs.Book.{bookImages, bookAfter};
 ghost use Rattle.plan.specs.Relocatable.{relocatableAt};
 ghost use Rattle.replay.specs.Script.{planEnd, planAt, callEnd, callAt, callsOf};
+use displacement::Addresses;
 use format::VirtualAddress;
 use history::CallAnswer;
-use image::Addresses;
 
 // ---- the script
 

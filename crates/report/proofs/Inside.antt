@@ -8,15 +8,15 @@ use Rattle.format.specs.declared.SymbolIndex.{SymbolIndex}
 use Rattle.refusal.specs.declared.RangeAnswer.{RangeAnswer}
 use Rattle.refusal.specs.declared.RangeAnswer.the-variants.{Found, Refused}
 use Rattle.refusal.specs.Part.{Within}
-use Rattle.header.specs.Lookup.{sectionNameAt}
-use Rattle.header.proofs.Lookup as section
+use Rattle.section_lookup.specs.Lookup.{sectionNameAt}
+use Rattle.section_lookup.proofs.Lookup as section
 use Rattle.symbol.specs.Symbol.{symbolNameAt}
 use Rattle.symbol.proofs.Lookup as symbol
-use Rattle.lookup.specs.declared.ImportString.{ImportString}
+use Rattle.import_id.specs.declared.ImportString.{ImportString}
 use Rattle.lookup.specs.Symbol.{loaderNameAt}
-use Rattle.lookup.specs.Import.{importAt}
+use Rattle.import_id.specs.Import.{importAt}
 use Rattle.lookup.proofs.Symbols.{loader-name-within}
-use Rattle.lookup.proofs.Strings.{import-within}
+use Rattle.import_id.proofs.Strings.{import-within}
 use Rattle.report.specs.Report.{cRange, InFile}
 
 -- what lies in the file does so by its offset and length

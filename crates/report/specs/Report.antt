@@ -10,7 +10,7 @@ use Rattle.refusal.specs.declared.RangeAnswer.{RangeAnswer}
 use Rattle.refusal.specs.declared.RangeAnswer.the-variants.{Found, Refused}
 use Rattle.refusal.specs.Refusal.{numberOf, itemOf}
 use Rattle.header.specs.Open.{OpenReport}
-use Rattle.header.specs.Lookup.{SectionReport}
+use Rattle.section_lookup.specs.Lookup.{SectionReport}
 use Rattle.symbol.specs.Symbol.{SymbolReport}
 use Rattle.symbol.specs.Walk.{WalkReport}
 use Rattle.csect.specs.Csect.{CsectReport}

@@ -2,7 +2,7 @@
 ghost use mathlib.Core.Path.{_≡_};
 ghost use Rattle.refusal.specs.Refusal.{numberOf, itemOf, reportNumber, reportItem};
 ghost use Rattle.header.specs.Open.{reportOfOpened};
-ghost use Rattle.header.specs.Lookup.{reportOfSection};
+ghost use Rattle.section_lookup.specs.Lookup.{reportOfSection};
 ghost use Rattle.symbol.specs.Symbol.{scnumOf, reportOfSymbol};
 ghost use Rattle.symbol.specs.Walk.{reportOfWalk};
 ghost use Rattle.csect.specs.Csect.{typeNumber, reportOfCsect};
@@ -17,7 +17,7 @@ use loadable::Loadable;
 use loadable::LoadableAnswer;
 use lookup::LoaderSymbolAnswer;
 use module::Anchor;
-use module::Part;
+use parts::Part;
 use refusal::RangeAnswer;
 use refusal::Refusal;
 use refusal::Verdict;

@@ -2,13 +2,13 @@
 // A slice is passed as a pointer and a length. Answers are structs by value; a name is an offset and a length in the file.
 ghost use mathlib.Core.Path.{_≡_};
 ghost use Rattle.header.specs.Open.{openReport};
-ghost use Rattle.header.specs.Lookup.{sectionReport, sectionNameAt};
+ghost use Rattle.section_lookup.specs.Lookup.{sectionReport, sectionNameAt};
 ghost use Rattle.symbol.specs.Symbol.{symbolReport, symbolNameAt};
 ghost use Rattle.symbol.specs.Walk.{reportOfWalk, walkReport};
 ghost use Rattle.csect.specs.Csect.{csectReport};
 ghost use Rattle.loadable.specs.Loadable.{moduleReport};
 ghost use Rattle.lookup.specs.Symbol.{loaderSymbolReport, loaderNameAt};
-ghost use Rattle.lookup.specs.Import.{importAt};
+ghost use Rattle.import_id.specs.Import.{importAt};
 ghost use lib.ListN.{length};
 ghost use Rattle.sheet.specs.Sheet.{headAnswer, readAnswer, readList, writeCheck, writeSheet, reportOfSheet, reportOfVerdict};
 ghost use Rattle.history.specs.Images.{images};
@@ -23,11 +23,11 @@ ghost use Rattle.loader_tables.specs.Rows.{loaderSymbols, relocations};
 ghost use Rattle.import_table.specs.Imports.{imports};
 ghost use Rattle.report_image.specs.Report.{cCall, cSheet, cVerdict};
 ghost use Rattle.report.specs.Report.{cOpen, cSection, cRange, cSymbol, cWalk, cCsect, cModule, cLoaderSymbol};
+use displacement::Addresses;
 use format::SectionNumber;
 use format::SymbolIndex;
 use format::VirtualAddress;
-use image::Addresses;
-use lookup::ImportString;
+use import_id::ImportString;
 use report::CCsect;
 use report::CLoaderSymbol;
 use report::CModule;
@@ -53,7 +53,7 @@ pub extern "C" fn xcoff_open(file: &[u8]) -> COpen
 pub extern "C" fn xcoff_section(file: &[u8], n: u64) -> CSection
     ensures { λ r. ⌜ r ≡ cSection (sectionReport (now (file .entry)) (record { 0 = n })) ⌝ }
 {
-    report::report_section(header::section_at(file, SectionNumber(n)))
+    report::report_section(section_lookup::section_at(file, SectionNumber(n)))
 }
 
 // Its name.
@@ -61,7 +61,7 @@ pub extern "C" fn xcoff_section(file: &[u8], n: u64) -> CSection
 pub extern "C" fn xcoff_section_name(file: &[u8], n: u64) -> CRange
     ensures { λ r. ⌜ r ≡ cRange (sectionNameAt (now (file .entry)) (record { 0 = n })) ⌝ }
 {
-    report::report_range(header::section_name_range(file, SectionNumber(n)))
+    report::report_range(section_lookup::section_name_range(file, SectionNumber(n)))
 }
 
 // The symbol table entry with index `i`, from 0.
@@ -125,7 +125,7 @@ pub extern "C" fn xcoff_loader_symbol_name(file: &[u8], i: u64) -> CRange
 pub extern "C" fn xcoff_import_path(file: &[u8], n: u64) -> CRange
     ensures { λ r. ⌜ r ≡ cRange (importAt (now (file .entry)) n ImportString.Path) ⌝ }
 {
-    report::report_range(lookup::import_range(file, n, ImportString::Path))
+    report::report_range(import_id::import_range(file, n, ImportString::Path))
 }
 
 // Its base name.
@@ -133,7 +133,7 @@ pub extern "C" fn xcoff_import_path(file: &[u8], n: u64) -> CRange
 pub extern "C" fn xcoff_import_base(file: &[u8], n: u64) -> CRange
     ensures { λ r. ⌜ r ≡ cRange (importAt (now (file .entry)) n ImportString.Base) ⌝ }
 {
-    report::report_range(lookup::import_range(file, n, ImportString::Base))
+    report::report_range(import_id::import_range(file, n, ImportString::Base))
 }
 
 // Its archive member.
@@ -141,7 +141,7 @@ pub extern "C" fn xcoff_import_base(file: &[u8], n: u64) -> CRange
 pub extern "C" fn xcoff_import_member(file: &[u8], n: u64) -> CRange
     ensures { λ r. ⌜ r ≡ cRange (importAt (now (file .entry)) n ImportString.Member) ⌝ }
 {
-    report::report_range(lookup::import_range(file, n, ImportString::Member))
+    report::report_range(import_id::import_range(file, n, ImportString::Member))
 }
 
 // What a plan sheet says of itself: its addresses, and how many places its list needs.

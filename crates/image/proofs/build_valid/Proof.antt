@@ -2,7 +2,7 @@ use borrow.Author.Needs.{needs}
 use lib.ListN.{length}
 use mathlib.Core.Path.{_∙_, _≡_}
 use Rattle.image.proofs.Calls.{build-leaves, call-done, call-refused}
-use Rattle.image.proofs.Checks.{build-lengths}
+use Rattle.call_check.proofs.Checks.{build-lengths}
 use Rattle.word.proofs.Test.{found}
 use Rattle.image.proofs.build_valid.Statement.{statement}
 use Rattle.image.proofs.build_valid.Tie as tie

@@ -2,7 +2,7 @@ use borrow.Author.Needs.{needs}
 use lib.ListN.{length}
 use mathlib.Core.Path.{_≡_}
 use Rattle.image.proofs.Calls.{call-done, call-refused, move-leaves}
-use Rattle.image.proofs.Checks.{move-lengths}
+use Rattle.call_check.proofs.Checks.{move-lengths}
 use Rattle.word.proofs.Test.{found}
 use Rattle.image.proofs.move_valid.Statement.{statement}
 use Rattle.image.proofs.move_valid.Tie as tie

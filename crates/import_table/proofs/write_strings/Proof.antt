@@ -3,7 +3,7 @@ use borrow.Author.Needs.{needs}
 use mathlib.Core.Path.{_≡_, refl}
 use native.Mathlib.Omega.{arith}
 use Rattle.format.specs.Range.{bytesOf}
-use Rattle.lookup.specs.Import.{stringStart}
+use Rattle.import_id.specs.Import.{stringStart}
 use Rattle.rows.proofs.Laws.{Writing, writing-end, writing-next, writing-start}
 use Rattle.import_table.specs.Imports.{stringRow}
 use Rattle.import_table.proofs.Imports.{end-inside, next-start, row-is, start-inside, string-even}

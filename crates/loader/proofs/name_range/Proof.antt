@@ -1,6 +1,6 @@
 use lib.ListN.{length}
 use borrow.Author.Needs.{needs}
-use Rattle.loader.proofs.Places.{entry-inside}
+use Rattle.loader_header.proofs.Places.{entry-inside}
 use Rattle.loader.specs.Symbol.{nameIn}
 use Rattle.loader.proofs.name_range.Statement.{statement}
 use Rattle.loader.proofs.name_range.Tie as tie

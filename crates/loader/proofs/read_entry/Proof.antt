@@ -1,7 +1,7 @@
 use lib.ListN.{length}
 use native.Mathlib.Omega.{arith}
 use borrow.Author.Needs.{needs}
-use Rattle.loader.proofs.Places.{entry-inside}
+use Rattle.loader_header.proofs.Places.{entry-inside}
 use Rattle.loader.proofs.Records.{entry-is}
 use Rattle.loader.proofs.read_entry.Statement.{statement}
 use Rattle.loader.proofs.read_entry.Tie as tie

@@ -2,7 +2,7 @@ use borrow.Author.Needs.{needs}
 use Rattle.word.proofs.Test.{found}
 use Rattle.module.proofs.Extent.{aux-in}
 use Rattle.module.specs.Module.{auxOf}
-use Rattle.module.specs.Sections.{threadCheck}
+use Rattle.parts.specs.Sections.{threadCheck}
 use Rattle.module.proofs.join_parts.Statement.{statement}
 use Rattle.module.proofs.join_parts.Tie as tie
 

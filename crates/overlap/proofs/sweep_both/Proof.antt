@@ -1,6 +1,7 @@
 use mathlib.Core.Path.{_∙_, sym}
 use borrow.Author.Needs.{needs}
-use Rattle.overlap.proofs.CellLaws.{readable-less, sections-first}
+use Rattle.clash.proofs.Readable.{readable-less}
+use Rattle.overlap.proofs.CellLaws.{sections-first}
 use Rattle.overlap.proofs.sweep_both.Statement.{statement}
 use Rattle.overlap.proofs.sweep_both.Tie as tie
 

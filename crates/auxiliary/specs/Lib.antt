@@ -1,0 +1,2 @@
+-- What the contracts of `auxiliary` cite.
+pub mod Auxiliary

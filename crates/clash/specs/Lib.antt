@@ -1,0 +1,3 @@
+-- What the contracts of `clash` cite.
+pub mod Overlap
+pub mod Ascending

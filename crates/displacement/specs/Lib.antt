@@ -1,0 +1,2 @@
+-- What the contracts of `displacement` cite.
+pub mod Reach

@@ -1,0 +1,24 @@
+-- The entry and TOC addresses in a plan, which depend on the file by the module's layout alone, and not on the plan's list.
+use Prim.Native.Nat.{ℕ}
+use mathlib.Core.Path.{_≡_}
+use mathlib.Core.List.{List}
+use Rattle.module.specs.declared.Anchor.{Anchor}
+use Rattle.loadable.specs.declared.Loadable.{Loadable}
+use Rattle.history.specs.declared.AnchorAddress.{AnchorAddress}
+use Rattle.history.specs.declared.Reached.{Reached}
+use Rattle.history.specs.Plan.{Plan, movedAddress, reachedBy}
+use Rattle.plan.specs.Relocatable.{anchorFollows, relocatableOf}
+use Rattle.displacement.specs.declared.Addresses.{Addresses}
+
+-- a plan by its two addresses and its list
+abbrev pub planOf : Addresses → List ℕ → Plan
+planOf a list = record { text = a .text .0; dat = a .«data» .0; list = list }
+
+-- r is the address of the entry point or the TOC anchor a
+abbrev pub IsMoved : Loadable → Anchor → Addresses → AnchorAddress → Type 0
+IsMoved l a at r =
+    (file list : List ℕ) → r ≡ movedAddress (relocatableOf file l) (planOf at list) (anchorFollows (l .layout .parts) a) (a .address .0)
+
+-- r has both
+abbrev pub IsReached : Loadable → Addresses → Reached → Type 0
+IsReached l at r = (file list : List ℕ) → r ≡ reachedBy (relocatableOf file l) (planOf at list)

@@ -1,0 +1,2 @@
+-- What the contracts of `import_id` cite.
+pub mod Import

@@ -1,0 +1,4 @@
+-- The laws that the proofs of this crate's functions cite, and those of the crates above.
+pub mod Places
+pub mod Records
+pub mod Answer

@@ -1,0 +1,2 @@
+-- What the contracts of `loader_header` cite.
+pub mod Header

@@ -1,0 +1,2 @@
+-- What the contracts of `section_lookup` cite.
+pub mod Lookup

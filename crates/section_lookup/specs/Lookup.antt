@@ -1,0 +1,59 @@
+-- A section looked up by its number: opening's refusals, then INDEX.
+use Prim.Native.Nat.{ℕ, _-_}
+use mathlib.Core.Bool.{_||_}
+use mathlib.Core.List.{List}
+use lib.Dec.{eqb, ltb}
+use lib.ListN.{getD}
+use Rattle.format.specs.declared.FileRange.{FileRange}
+use Rattle.format.specs.declared.SectionNumber.{SectionNumber}
+use Rattle.format.specs.Layout.{sectionLayout}
+use Rattle.format.specs.Range.{textIn}
+use Rattle.refusal.specs.declared.RangeAnswer.{RangeAnswer}
+use Rattle.refusal.specs.declared.Refusal.the-variants.{Index}
+use Rattle.refusal.specs.declared.IndexItem.the-variants.{NoSection}
+use Rattle.refusal.specs.declared.Verdict.{Verdict}
+use Rattle.refusal.specs.declared.Verdict.the-variants as verdict
+use Rattle.refusal.specs.Order.{_orElse_, refuseIf}
+use Rattle.refusal.specs.Part.{rangeBy}
+use Rattle.refusal.specs.Refusal.{reportNumber, reportItem}
+use Rattle.section.specs.declared.Section.{Section}
+use Rattle.section.specs.declared.SectionAnswer.{SectionAnswer}
+use Rattle.section.specs.declared.SectionAnswer.the-variants.{Found, Refused}
+use Rattle.header.specs.declared.Summary.{Summary}
+use Rattle.header.specs.Header.{sectionStart}
+use Rattle.header.specs.Tables.{blankSection, verdictOf, recordOf}
+use Rattle.header.specs.Open.{openOf}
+
+-- sections are numbered from one
+unfoldable pub numberCheck : ℕ → SectionNumber → Verdict
+numberCheck count n = refuseIf (eqb (n .0) 0 || ltb count (n .0)) (Index (NoSection n))
+
+unfoldable pub lookupCheck : List ℕ → SectionNumber → Verdict
+lookupCheck file n = openOf file .verdict orElse numberCheck (openOf file .summary .count) n
+
+abbrev pub sectionBy : Verdict → Section → SectionAnswer
+sectionBy verdict.Accepted s = Found s
+sectionBy (verdict.Refused x) s = Refused x
+
+-- the record of section n
+unfoldable pub sectionAt : List ℕ → SectionNumber → SectionAnswer
+sectionAt file n = sectionBy (lookupCheck file n) (getD (openOf file .summary .sections) (n .0 - 1) blankSection)
+
+-- where the name of section n lies: the 8 bytes of its header up to the first zero
+unfoldable pub nameOf : List ℕ → Summary → SectionNumber → FileRange
+nameOf file y n = textIn (sectionLayout (y .format) .name) (sectionStart (y .format) (y .opthdr) (n .0 - 1)) file
+
+unfoldable pub sectionNameAt : List ℕ → SectionNumber → RangeAnswer
+sectionNameAt file n = rangeBy (lookupCheck file n) (nameOf file (openOf file .summary) n)
+
+-- document 01's number (0: accepted), item and values of the answer
+pub record SectionReport : Type 0 where
+  pub number : ℕ
+  pub item : ℕ
+  pub section : Section
+
+abbrev pub reportOfSection : SectionAnswer → SectionReport
+reportOfSection a = record { number = reportNumber (verdictOf a); item = reportItem (verdictOf a); section = recordOf a }
+
+abbrev pub sectionReport : List ℕ → SectionNumber → SectionReport
+sectionReport file n = reportOfSection (sectionAt file n)

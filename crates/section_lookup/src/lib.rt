@@ -1,0 +1,76 @@
+// A section and its name looked up by number: opening's refusals, then INDEX.
+ghost use mathlib.Core.Path.{_≡_};
+ghost use Prim.Native.Nat.{_<_};
+ghost use Rattle.refusal.specs.Order.{_orElse_};
+ghost use Rattle.refusal.specs.Part.{rangeBytes};
+ghost use Rattle.section_lookup.specs.Lookup.{numberCheck, sectionAt, sectionReport, reportOfSection, sectionNameAt};
+use format::SectionNumber;
+use refusal::IndexItem;
+use refusal::RangeAnswer;
+use refusal::Refusal;
+use refusal::Verdict;
+use section::Section;
+use section::SectionAnswer;
+
+// Opening's refusal, or INDEX where the file has no section `n`.
+pub fn check_number(v: Verdict, count: u64, n: SectionNumber) -> Verdict
+    ensures { λ r. ⌜ r ≡ (v orElse numberCheck count n) ⌝ }
+{
+    if refusal::refuses(v) {
+        return v;
+    }
+    if n.0 == 0 {
+        return Verdict::Refused(Refusal::Index(IndexItem::NoSection(n)));
+    }
+    if count < n.0 {
+        return Verdict::Refused(Refusal::Index(IndexItem::NoSection(n)));
+    }
+    Verdict::Accepted
+}
+
+// The record of section `n`.
+pub fn section_at(file: &[u8], n: SectionNumber) -> SectionAnswer
+    ensures cause { λ r. ⌜ r ≡ sectionAt (now (file .entry)) n ⌝ }
+    ensures report { λ r. ⌜ reportOfSection r ≡ sectionReport (now (file .entry)) n ⌝ }
+{
+    let o = header::open(file);
+    let s = o.summary;
+    let opened = o.verdict;
+    let v = check_number(opened, s.count, n);
+    match v {
+        Verdict::Refused(x) => SectionAnswer::Refused(x),
+        Verdict::Accepted => {
+            let i = (n.0 - 1) as usize;
+            let section = s.sections[i];
+            SectionAnswer::Found(section)
+        }
+    }
+}
+
+// Where the name of section `n` lies.
+pub fn section_name_range(file: &[u8], n: SectionNumber) -> RangeAnswer
+    ensures { λ r. ⌜ r ≡ sectionNameAt (now (file .entry)) n ⌝ }
+{
+    let o = header::open(file);
+    let s = o.summary;
+    let opened = o.verdict;
+    let v = check_number(opened, s.count, n);
+    match v {
+        Verdict::Refused(x) => RangeAnswer::Refused(x),
+        Verdict::Accepted => {
+            let f = s.format;
+            let l = format::section_layout(f);
+            let name = l.name;
+            let base = header::section_start(f, s.opthdr, n.0 - 1) as usize;
+            RangeAnswer::Found(format::text_in(file, base, name))
+        }
+    }
+}
+
+// The name of section `n`: the very bytes of the file, none on a refusal.
+pub fn section_name<'a>(file: &'a [u8], n: SectionNumber) -> &'a [u8]
+    ensures { λ r. ⌜ now r ≡ rangeBytes (now (file .entry)) (sectionNameAt (now (file .entry)) n) ⌝ }
+{
+    let a = section_name_range(file, n);
+    refusal::part_of(file, a)
+}
