@@ -1,4 +1,4 @@
-// The loader section: its header, its four tables, and every loader symbol.
+// Every loader symbol and its name, and the loader section judged whole.
 ghost use mathlib.Core.Path.{_≡_};
 ghost use mathlib.Core.Bool.{false, _||_};
 ghost use lib.Dec.{eqb};

@@ -1,4 +1,4 @@
-// The loadable module: which section is which, the auxiliary header, and the data image's extent.
+// The loadable module: its sections judged in their order, and the extent of its data image.
 ghost use mathlib.Core.Path.{_≡_};
 ghost use Prim.Native.Nat.{_+_, _≤_, _<_};
 ghost use mathlib.Core.Bool.{true, false, _||_};

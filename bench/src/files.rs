@@ -1,0 +1,106 @@
+//! Files with symbols, made for the benchmarks; `made` in host/tests makes modules.
+
+use xcoff::Format;
+
+/// A file of sections without raw data, and symbols named by 13 bytes of the string table.
+#[derive(Clone, Copy)]
+pub struct Symbols {
+    pub format: Format,
+    pub sections: u16,
+    pub count: u32,
+    /// Every symbol is a csect of its own, with the auxiliary entry for it.
+    pub csects: bool,
+}
+
+impl Symbols {
+    pub fn bytes(&self) -> Vec<u8> {
+        let mut out = self.header();
+        for n in 0..self.sections {
+            self.section(&mut out, n);
+        }
+        for n in 0..self.count {
+            self.symbol(&mut out, n);
+        }
+        let names = (0..self.count).flat_map(|n| format!("symbol_{n:06x}\0").into_bytes());
+        let start = out.len();
+        out.extend([0; 4]);
+        out.extend(names);
+        let length = (out.len() - start) as u32;
+        out[start..start + 4].copy_from_slice(&length.to_be_bytes());
+        out
+    }
+
+    /// Entries of the symbol table.
+    fn entries(&self) -> u32 {
+        self.count * if self.csects { 2 } else { 1 }
+    }
+
+    fn header(&self) -> Vec<u8> {
+        let sections = u32::from(self.sections);
+        let mut out = Vec::new();
+        match self.format {
+            Format::Xcoff32 => {
+                out.extend([0x01, 0xDF]);
+                out.extend(self.sections.to_be_bytes());
+                out.extend([0; 4]);
+                out.extend((20 + 40 * sections).to_be_bytes());
+                out.extend(self.entries().to_be_bytes());
+                out.extend([0; 4]);
+            }
+            Format::Xcoff64 => {
+                out.extend([0x01, 0xF7]);
+                out.extend(self.sections.to_be_bytes());
+                out.extend([0; 8]);
+                out.extend((24 + 72 * sections).to_be_bytes());
+                out.extend([0; 4]);
+                out.extend(self.entries().to_be_bytes());
+            }
+        }
+        out
+    }
+
+    fn section(&self, out: &mut Vec<u8>, n: u16) {
+        out.extend(b".text\0\0\0");
+        let address = 0x1000 * u32::from(n);
+        for number in [address, address, 0x1000, 0, 0, 0] {
+            self.word(out, number);
+        }
+        match self.format {
+            Format::Xcoff32 => out.extend([0, 0, 0, 0, 0, 0, 0, 0x20]),
+            Format::Xcoff64 => out.extend([0, 0, 0, 0, 0, 0, 0, 0, 0, 0, 0, 0x20, 0, 0, 0, 0]),
+        }
+    }
+
+    fn symbol(&self, out: &mut Vec<u8>, n: u32) {
+        let name = 4 + 14 * n;
+        match self.format {
+            Format::Xcoff32 => {
+                out.extend([0; 4]);
+                out.extend(name.to_be_bytes());
+                out.extend((4 * n).to_be_bytes());
+            }
+            Format::Xcoff64 => {
+                self.word(out, 4 * n);
+                out.extend(name.to_be_bytes());
+            }
+        }
+        // section 1, type 0, then the class (HIDEXT or STAT) and the auxiliary entries
+        out.extend(if self.csects {
+            [0, 1, 0, 0, 107, 1]
+        } else {
+            [0, 1, 0, 0, 3, 0]
+        });
+        if self.csects {
+            // length 4, SD of alignment 2, mapping class PR
+            out.extend([0, 0, 0, 4, 0, 0, 0, 0, 0, 0, 0x11, 0, 0, 0, 0, 0, 0]);
+            out.push(if self.format == Format::Xcoff64 { 251 } else { 0 });
+        }
+    }
+
+    fn word(&self, out: &mut Vec<u8>, n: u32) {
+        if self.format == Format::Xcoff64 {
+            out.extend([0; 4]);
+        }
+        out.extend(n.to_be_bytes());
+    }
+}

@@ -1,0 +1,54 @@
+//! Modules whose relocation entries stand in a given order.
+
+use super::made::{Entry, Module};
+use xcoff::Format;
+
+#[derive(Clone, Copy)]
+pub enum Order {
+    Ascending,
+    Descending,
+    Random,
+}
+
+impl Order {
+    pub fn word(self) -> &'static str {
+        match self {
+            Order::Ascending => "ascending",
+            Order::Descending => "descending",
+            Order::Random => "random",
+        }
+    }
+}
+
+pub const ORDERS: [Order; 3] = [Order::Ascending, Order::Descending, Order::Random];
+
+/// A module with so many entries, spread evenly over so many bytes of data.
+pub fn module(format: Format, entries: u64, data: u64, order: Order) -> Vec<u8> {
+    let mut m = Module::new(format);
+    m.data_size = data;
+    let entry = |i| Entry {
+        address: m.data_address + i * (data / entries),
+        symbol: 0,
+        kind: 0x1F00,
+        section: 2,
+    };
+    let mut list: Vec<Entry> = (0..entries).map(entry).collect();
+    match order {
+        Order::Ascending => {}
+        Order::Descending => list.reverse(),
+        Order::Random => shuffle(&mut list),
+    }
+    m.entries = list;
+    m.bytes()
+}
+
+/// A fixed order that looks random.
+fn shuffle(entries: &mut [Entry]) {
+    let mut x = 88_172_645_463_325_252_u64;
+    for i in (1..entries.len()).rev() {
+        x ^= x << 13;
+        x ^= x >> 7;
+        x ^= x << 17;
+        entries.swap(i, (x % (i as u64 + 1)) as usize);
+    }
+}

@@ -1,0 +1,164 @@
+//! The commands of `xcoff`, one after another in one process, on files that a fuzzer makes (tests/fuzz): this is a module
+//! of a copy of the command. A panic, and whatever breaks a promise of docs/COMMANDS.md, aborts.
+//!
+//! With FUZZ_FILE=FILE in the environment it runs that one input.
+
+use std::ffi::OsString;
+use std::fs::{self, File, OpenOptions};
+use std::io::Write;
+use std::os::fd::{AsRawFd, FromRawFd};
+use std::os::unix::fs::FileExt;
+
+extern "C" {
+    fn fuzz_next(input: *mut *const u8, length: *mut usize) -> i32;
+    fn dup(fd: i32) -> i32;
+    fn dup2(fd: i32, to: i32) -> i32;
+}
+
+/// A module that is always there, its sheet and its images.
+const FIXED: &[u8] = include_bytes!("fixed-module");
+/// Larger images are not written: a fuzzer lives from many runs.
+const LARGE: u64 = 1 << 20;
+
+pub fn main() {
+    let folder = std::env::var_os("FUZZ_FOLDER").expect("FUZZ_FOLDER");
+    let one = std::env::var_os("FUZZ_FILE").map(|path| fs::read(path).expect("FUZZ_FILE"));
+    std::env::set_current_dir(folder).expect("FUZZ_FOLDER");
+    let commands = Commands::new();
+    commands.prepare();
+    if let Some(input) = one {
+        return commands.all(&input);
+    }
+    loop {
+        let mut input = std::ptr::null();
+        let mut length = 0;
+        if unsafe { fuzz_next(&mut input, &mut length) } == 0 {
+            return;
+        }
+        commands.all(unsafe { std::slice::from_raw_parts(input, length) });
+    }
+}
+
+/// Runs commands and looks at what they print.
+struct Commands {
+    printed: File,
+}
+
+impl Commands {
+    fn new() -> Commands {
+        let mut options = OpenOptions::new();
+        let printed = options.read(true).append(true).create(true).open("printed");
+        let printed = printed.expect("a file for what is printed");
+        let err = unsafe { dup(2) };
+        std::panic::set_hook(Box::new(move |info| {
+            let mut err = unsafe { File::from_raw_fd(err) };
+            let _ = writeln!(err, "{info}");
+            std::process::abort();
+        }));
+        unsafe { dup2(printed.as_raw_fd(), 1) };
+        unsafe { dup2(printed.as_raw_fd(), 2) };
+        Commands { printed }
+    }
+
+    fn prepare(&self) {
+        fs::write("fixed", FIXED).unwrap();
+        assert_eq!(self.run("plan fixed -o fixed.sheet"), 0);
+        assert_eq!(self.run("plan fixed --text 1000 --data 80000 -o fixed.other"), 0);
+        assert_eq!(self.run("build fixed fixed.sheet -o fixed.text fixed.data"), 0);
+    }
+
+    fn all(&self, input: &[u8]) {
+        fs::write("m", input).unwrap();
+        let mut module = 0;
+        for listing in ["headers", "symbols", "module", "imports", "relocations"] {
+            let status = self.run(&format!("{listing} m"));
+            assert!(status <= 1, "{listing}: status {status}");
+            assert_eq!(self.run(&format!("{listing} m --json")), status, "{listing}");
+            module = status;
+        }
+        self.as_sheet();
+        self.as_image(input);
+        if module == 0 {
+            let image = xcoff::module(input).expect("it is listed as one").image;
+            if image <= LARGE {
+                self.images(input);
+            }
+        }
+        let names = fs::read_dir(".").unwrap().map(|entry| entry.unwrap().file_name());
+        assert!(!names.into_iter().any(|name| name.to_string_lossy().ends_with(".tmp")));
+    }
+
+    fn as_sheet(&self) {
+        let sheet = self.run("sheet m");
+        assert_eq!(self.run("sheet m --json"), sheet);
+        assert!(sheet <= 1);
+        let fits = self.run("sheet m fixed");
+        assert!(fits <= 1 && fits >= sheet);
+        let built = self.run("build fixed m -o other.text other.data");
+        assert!(built <= 1 && built >= fits);
+        if built == 0 {
+            assert_eq!(self.run("check fixed m other.text other.data"), 0);
+            assert_eq!(self.run("move fixed m fixed.sheet other.text other.data"), 0);
+            assert_eq!(self.run("check fixed fixed.sheet other.text other.data"), 0);
+        }
+    }
+
+    fn as_image(&self, input: &[u8]) {
+        assert!(self.run("check fixed fixed.sheet m fixed.data") <= 1);
+        assert!(self.run("check fixed fixed.other fixed.text m --or fixed.sheet --or m") <= 1);
+        assert!(self.run("move fixed fixed.sheet fixed.other fixed.text m -o other.text other.data") <= 1);
+        assert!(self.run("move fixed fixed.sheet fixed.other m fixed.data --unchecked -o other.text other.data") <= 1);
+        assert_eq!(fs::read("m").unwrap(), input, "the input is changed");
+    }
+
+    /// A module: planned, built, moved there and back.
+    fn images(&self, input: &[u8]) {
+        let hash = input.iter().fold(0xcbf29ce484222325u64, |h, &b| (h ^ b as u64).wrapping_mul(0x100000001b3));
+        assert_eq!(self.run("plan m -o s"), 0);
+        assert_eq!(self.run("sheet s m"), 0);
+        assert_eq!(self.run("build m s -o t d"), 0);
+        assert_eq!(self.run("check m s t d"), 0);
+        assert!(self.run("plan m --import @3=ffffffff --text 0 -o s2") <= 2);
+        let shift = if hash & 1 == 0 { 36 } else { hash >> 1 & 31 };
+        let planned = self.run(&format!(
+            "plan m --text {:x} --data {:x} -o s2",
+            hash >> shift,
+            hash.rotate_left(32) >> shift
+        ));
+        assert!(planned <= 1);
+        if planned == 1 {
+            return;
+        }
+        assert_eq!(self.run("move m s s2 t d -o t2 d2"), 0);
+        assert_eq!(self.run("check m s t d"), 0);
+        assert_eq!(self.run("check m s2 t2 d2"), 0);
+        assert_eq!(self.run("move m s s2 t d"), 0);
+        assert_eq!(self.run("check m s t d --or s2"), 0);
+        // A second time it is refused, or changes nothing since the plan's fields are the same.
+        assert!(self.run("move m s s2 t d") <= 1);
+        assert_eq!(self.run("check m s2 t d"), 0);
+        assert_eq!(self.run("move m s2 s t d"), 0);
+        assert_eq!(self.run("check m s t d"), 0);
+    }
+
+    fn run(&self, line: &str) -> u8 {
+        self.printed.set_len(0).unwrap();
+        let words: Vec<OsString> = line.split(' ').map(OsString::from).collect();
+        let json = line.ends_with("--json");
+        let (status, said) = match crate::run(words) {
+            Ok(()) => (0, String::new()),
+            Err(problem) => (problem.status(), problem.to_string()),
+        };
+        assert_eq!(status == 0, said.is_empty(), "{line}: {said}");
+        assert!(status == 0 || said.starts_with("xcoff: ") && said.ends_with('\n'), "{line}: {said}");
+        let mut printed = vec![0; self.printed.metadata().unwrap().len() as usize];
+        self.printed.read_exact_at(&mut printed, 0).unwrap();
+        let plain = |b: &u8| *b == b'\n' || (0x20..0x7f).contains(b);
+        assert!(printed.iter().chain(said.as_bytes()).all(plain), "{line}: not printable");
+        if json {
+            let mut lines = printed.split_inclusive(|&b| b == b'\n');
+            assert!(lines.all(|l| l.starts_with(b"{\"table\":\"") && l.ends_with(b"}\n")), "{line}");
+        }
+        status
+    }
+}

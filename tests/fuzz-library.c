@@ -1,0 +1,726 @@
+/*
+ * Calls every function of include/xcoff.h on any bytes and aborts where an answer breaks a promise of the header.
+ *
+ * The file, the lists, the rows and the images lie at the very end of pages that are followed by a page that cannot be
+ * touched; then at the very start of pages after such a page. So a read or write outside them is a fault, although the
+ * library is compiled without bounds checks.
+ *
+ * With AFL (tests/fuzz) the input is what AFL gives. Run with arguments, it takes each file named and prints a digest of
+ * all answers; compiled with -DPLAIN it needs nothing of AFL for that.
+ */
+#define _GNU_SOURCE
+#include "xcoff.h"
+
+#include <stdio.h>
+#include <stdlib.h>
+#include <string.h>
+#include <sys/mman.h>
+#include <unistd.h>
+
+#define PAGE ((size_t)4096)
+#define ROOM ((size_t)20 << 20)
+#define LARGEST ((size_t)1 << 20)   /* of an input */
+#define HEAVY ((size_t)1 << 18)     /* larger images are built once and not moved about */
+#define SAMPLE 24                   /* rows of a table that are compared with single look-ups */
+
+/* ---- what is promised */
+
+static const char *step = "start";
+
+static void broken(const char *promise, int line)
+{
+    fprintf(stderr, "fuzz-library: broken at line %d, step %s: %s\n", line, step, promise);
+    abort();
+}
+
+#define PROMISE(holds) do { if (!(holds)) broken(#holds, __LINE__); } while (0)
+
+static uint64_t digest;
+
+static void note(const void *bytes, size_t n)
+{
+    const uint8_t *p = bytes;
+    while (n-- > 0)
+        digest = (digest ^ *p++) * 0x100000001b3;
+}
+
+#define NOTE(answer) note(&(answer), sizeof(answer))
+#define SAME(a, b) (memcmp(&(a), &(b), sizeof(a)) == 0)
+
+/* A refusal has a known number, and every other field is 0. */
+static void refusal(const void *answer, size_t size)
+{
+    uint64_t field;
+    size_t i;
+    memcpy(&field, answer, sizeof field);
+    PROMISE(field <= 21);
+    for (i = 16; field != 0 && i < size; i++)
+        PROMISE(((const uint8_t *)answer)[i] == 0);
+    note(answer, size);
+}
+
+#define ANSWER(answer) refusal(&(answer), sizeof(answer))
+#define REFUSED(answer, n, i) ((answer).number == (n) && (answer).item == (i))
+
+/* ---- guarded memory */
+
+typedef struct area {
+    uint8_t *start;
+} area;
+
+static int at_the_end; /* or at the start */
+
+static area map(void)
+{
+    uint8_t *p = mmap(NULL, ROOM + 2 * PAGE, PROT_READ | PROT_WRITE, MAP_PRIVATE | MAP_ANONYMOUS | MAP_NORESERVE, -1, 0);
+    area a;
+    if (p == MAP_FAILED || mprotect(p, PAGE, PROT_NONE) != 0 || mprotect(p + PAGE + ROOM, PAGE, PROT_NONE) != 0) {
+        perror("fuzz-library: mmap");
+        exit(2);
+    }
+    a.start = p + PAGE;
+    return a;
+}
+
+static void *lend(area a, size_t n)
+{
+    PROMISE(n <= ROOM);
+    return at_the_end ? a.start + ROOM - n : a.start;
+}
+
+static area file_area, text_area, data_area, text2_area, data2_area, list_area, list2_area, rows_area, sheet_area, script_area;
+
+static void map_all(void)
+{
+    area *all[] = {&file_area, &text_area, &data_area, &text2_area, &data2_area, &list_area, &list2_area, &rows_area,
+                   &sheet_area, &script_area};
+    size_t i;
+    for (i = 0; i < sizeof all / sizeof all[0]; i++)
+        *all[i] = map();
+}
+
+/* ---- numbers that follow from the input */
+
+static uint64_t state;
+
+static uint64_t random_number(void)
+{
+    state ^= state << 13;
+    state ^= state >> 7;
+    state ^= state << 17;
+    return state;
+}
+
+static uint64_t any_number(void)
+{
+    switch (random_number() % 8) {
+    case 0: return UINT64_MAX - random_number() % 4;
+    case 1: return UINT32_MAX - random_number() % 4;
+    case 2: return random_number();
+    case 3: return random_number() & UINT32_MAX;
+    default: return random_number() % 64;
+    }
+}
+
+/* ---- a pattern, to see what a refused call leaves */
+
+static uint8_t pattern(size_t i)
+{
+    return (uint8_t)(i * 37 + 11);
+}
+
+static uint8_t made[65536];
+
+static void fill(void *bytes, size_t n)
+{
+    uint8_t *p = bytes;
+    size_t i;
+    for (i = 0; i < n; i += sizeof made)
+        memcpy(p + i, made, n - i < sizeof made ? n - i : sizeof made);
+}
+
+static void untouched(const void *bytes, size_t n)
+{
+    const uint8_t *p = bytes;
+    size_t i;
+    for (i = 0; i < n; i += sizeof made)
+        PROMISE(memcmp(p + i, made, n - i < sizeof made ? n - i : sizeof made) == 0);
+}
+
+/* ---- the calls */
+
+static const uint8_t *file;
+static size_t length;
+
+static void name_inside(xcoff_name_answer n)
+{
+    ANSWER(n);
+    if (n.number == 0) {
+        PROMISE(n.offset <= length && n.length <= length - n.offset);
+        PROMISE(memchr(file + n.offset, 0, n.length) == NULL);
+    }
+}
+
+static xcoff_open_answer headers(void)
+{
+    xcoff_open_answer o = xcoff_open(file, length);
+    uint64_t i, n;
+    step = "headers";
+    ANSWER(o);
+    PROMISE(o.number <= 7);
+    PROMISE(o.number != 0 || (o.bits == 32 || o.bits == 64));
+    PROMISE(o.sections <= 32);
+    for (i = 0; i < 36; i++) {
+        xcoff_section_answer s;
+        xcoff_name_answer name;
+        n = i < 34 ? i : any_number();
+        s = xcoff_section(file, length, n);
+        name = xcoff_section_name(file, length, n);
+        ANSWER(s);
+        name_inside(name);
+        PROMISE(s.number == name.number && s.item == name.item);
+        if (o.number != 0)
+            PROMISE(REFUSED(s, o.number, o.item));
+        else if (n == 0 || n > o.sections)
+            PROMISE(REFUSED(s, 8, n));
+        else
+            PROMISE(s.number == 0 && name.length <= 8 && s.raw <= 1);
+        if (s.raw == 1)
+            PROMISE(s.scnptr <= length && s.size <= length - s.scnptr);
+    }
+    return o;
+}
+
+static void one_symbol(xcoff_open_answer o, uint64_t i, const xcoff_symbol_row *row)
+{
+    xcoff_symbol_answer y = xcoff_symbol(file, length, i);
+    xcoff_name_answer n = xcoff_symbol_name(file, length, i);
+    xcoff_csect_answer c = xcoff_csect(file, length, i);
+    ANSWER(y);
+    name_inside(n);
+    ANSWER(c);
+    PROMISE(y.number == n.number && y.item == n.item);
+    if (o.number != 0)
+        PROMISE(REFUSED(y, o.number, o.item) && REFUSED(c, o.number, o.item));
+    else if (i >= o.symbols)
+        PROMISE(REFUSED(y, 8, i) && REFUSED(c, 8, i));
+    else if (y.number != 0)
+        PROMISE(y.number >= 9 && y.number <= 11 && y.item == i && REFUSED(c, y.number, i));
+    else
+        PROMISE(y.numaux < o.symbols - i && y.scnum >= -2 && y.scnum <= (int64_t)o.sections && (c.number == 0 || REFUSED(c, 12, i)));
+    if (row != NULL) {
+        const uint8_t *zero = memchr(file + row->name, 0, row->room);
+        uint64_t name_length = zero == NULL ? row->room : (uint64_t)(zero - (file + row->name));
+        PROMISE(y.number == 0 && row->index == i && row->value == y.value && row->scnum == y.scnum && row->type == y.type);
+        PROMISE(row->sclass == y.sclass && row->numaux == y.numaux);
+        PROMISE(row->csect == c.number && row->csect_type == c.type && row->align == c.align && row->smclas == c.smclas);
+        PROMISE(row->length == c.length && row->name == n.offset && name_length == n.length);
+    }
+}
+
+static void symbols(xcoff_open_answer o)
+{
+    xcoff_walk_answer w = xcoff_walk(file, length), t;
+    const xcoff_symbol_row *rows;
+    uint64_t *numbers;
+    uint64_t i, next = 0;
+    size_t n;
+    step = "symbols";
+    ANSWER(w);
+    PROMISE(w.number == o.number && w.item == o.item);
+    for (i = 0; i < 8; i++)
+        one_symbol(o, i < 3 ? i : i < 5 ? o.symbols - (i - 3) : any_number(), NULL);
+    n = 13 * w.visited;
+    numbers = lend(rows_area, 8 * (n + 1));
+    fill(numbers, 8 * (n + 1));
+    t = xcoff_symbol_table(file, length, numbers, n + 1);
+    ANSWER(t);
+    PROMISE(o.number != 0 ? REFUSED(t, o.number, o.item) : REFUSED(t, 20, 0));
+    untouched(numbers, 8 * (n + 1));
+    if (o.number != 0)
+        return;
+    PROMISE(w.visited <= o.symbols && w.end <= o.symbols && (w.cause.number == 0) == (w.end == o.symbols));
+    if (n > 0) {
+        numbers = lend(rows_area, 8 * (n - 1));
+        fill(numbers, 8 * (n - 1));
+        t = xcoff_symbol_table(file, length, numbers, n - 1);
+        PROMISE(REFUSED(t, 20, 0));
+        untouched(numbers, 8 * (n - 1));
+    }
+    numbers = lend(rows_area, 8 * n);
+    fill(numbers, 8 * n);
+    t = xcoff_symbol_table(file, length, numbers, n);
+    PROMISE(SAME(t, w));
+    note(numbers, 8 * n);
+    rows = (const xcoff_symbol_row *)numbers;
+    for (i = 0; i < w.visited; i++) {
+        PROMISE(rows[i].index == next && rows[i].name <= length && rows[i].room <= length - rows[i].name);
+        next += 1 + rows[i].numaux;
+        if (i < SAMPLE || i + 2 >= w.visited || random_number() % w.visited < 8)
+            one_symbol(o, rows[i].index, rows + i);
+    }
+    PROMISE(next == w.end);
+    if (w.cause.number != 0) {
+        xcoff_symbol_answer y = xcoff_symbol(file, length, w.end);
+        PROMISE(REFUSED(y, w.cause.number, w.cause.item));
+    }
+}
+
+/* The rows of a table of a module into exactly as many places; a place more or less is refused. */
+static const uint64_t *table(xcoff_module_answer m, xcoff_verdict (*list)(const uint8_t *, size_t, uint64_t *, size_t), size_t n)
+{
+    int by;
+    for (by = -1; by <= 1; by++) {
+        size_t room = n + by;
+        uint64_t *numbers;
+        xcoff_verdict v;
+        if (n == 0 && by == -1)
+            continue;
+        numbers = lend(rows_area, 8 * room);
+        fill(numbers, 8 * room);
+        v = list(file, length, numbers, room);
+        ANSWER(v);
+        if (m.number != 0)
+            PROMISE(REFUSED(v, m.number, m.item));
+        else
+            PROMISE(by == 0 ? REFUSED(v, 0, 0) : REFUSED(v, 20, 0));
+        if (v.number != 0)
+            untouched(numbers, 8 * room);
+    }
+    if (m.number == 0) {
+        uint64_t *numbers = lend(rows_area, 8 * n);
+        fill(numbers, 8 * n);
+        list(file, length, numbers, n);
+        note(numbers, 8 * n);
+        return numbers;
+    }
+    return NULL;
+}
+
+static void one_loader_symbol(xcoff_module_answer m, uint64_t i, const xcoff_loader_symbol_row *row)
+{
+    xcoff_loader_symbol_answer y = xcoff_loader_symbol(file, length, i);
+    xcoff_name_answer n = xcoff_loader_symbol_name(file, length, i);
+    ANSWER(y);
+    name_inside(n);
+    PROMISE(y.number == n.number && y.item == n.item);
+    if (m.number != 0)
+        PROMISE(REFUSED(y, m.number, m.item));
+    else if (i < 3 || i - 3 >= m.symbols)
+        PROMISE(REFUSED(y, 8, i));
+    else
+        PROMISE(y.number == 0);
+    if (row != NULL) {
+        PROMISE(row->index == i && row->value == y.value && row->scnum == y.scnum && row->smtype == y.smtype);
+        PROMISE(row->smclas == y.smclas && row->ifile == y.ifile && row->parm == y.parm);
+        PROMISE(row->name == n.offset && row->name_length == n.length);
+    }
+}
+
+static void one_import(xcoff_module_answer m, uint64_t i, const xcoff_import_row *row)
+{
+    xcoff_name_answer path = xcoff_import_path(file, length, i), base = xcoff_import_base(file, length, i),
+                      member = xcoff_import_member(file, length, i);
+    name_inside(path);
+    name_inside(base);
+    name_inside(member);
+    PROMISE(path.number == base.number && path.number == member.number);
+    if (m.number != 0)
+        PROMISE(REFUSED(path, m.number, m.item));
+    else if (i >= m.ids)
+        PROMISE(REFUSED(path, 8, i) && REFUSED(base, 8, i) && REFUSED(member, 8, i));
+    else
+        PROMISE(path.number == 0);
+    if (row != NULL) {
+        PROMISE(row->path == path.offset && row->path_length == path.length);
+        PROMISE(row->base == base.offset && row->base_length == base.length);
+        PROMISE(row->member == member.offset && row->member_length == member.length);
+    }
+}
+
+static int sampled(uint64_t i, uint64_t n)
+{
+    return i < SAMPLE || i + 1 == n || random_number() % n < 4;
+}
+
+static void tables(xcoff_module_answer m)
+{
+    const xcoff_loader_symbol_row *symbol;
+    const xcoff_relocation_row *entry;
+    const xcoff_import_row *id;
+    uint64_t i;
+    step = "tables";
+    symbol = (const void *)table(m, xcoff_loader_symbol_table, 9 * m.symbols);
+    for (i = 0; i < m.symbols; i++) {
+        PROMISE(symbol[i].index == i + 3);
+        PROMISE(symbol[i].name <= length && symbol[i].name_length <= length - symbol[i].name);
+        if (sampled(i, m.symbols))
+            one_loader_symbol(m, i + 3, symbol + i);
+    }
+    id = (const void *)table(m, xcoff_import_table, 6 * m.ids);
+    for (i = 0; i < m.ids; i++)
+        if (sampled(i, m.ids))
+            one_import(m, i, id + i);
+    entry = (const void *)table(m, xcoff_relocation_table, 8 * m.relocations);
+    for (i = 0; i < m.relocations; i++) {
+        xcoff_part part = entry[i].in_text ? m.text : m.data;
+        uint64_t size = entry[i].in_text ? m.text.size : m.image;
+        PROMISE(entry[i].in_text <= 1 && entry[i].subtracts <= 1 && (entry[i].width == 4 || entry[i].width == 8));
+        PROMISE(entry[i].scnum == part.number && entry[i].address == part.address + entry[i].offset);
+        PROMISE(entry[i].offset <= size && entry[i].width <= size - entry[i].offset && entry[i].symbol < 3 + m.symbols);
+    }
+    for (i = 0; i < 3; i++) {
+        one_loader_symbol(m, i < 1 ? 2 : any_number(), NULL);
+        one_import(m, i < 1 ? m.ids : any_number(), NULL);
+    }
+}
+
+static xcoff_module_answer module(xcoff_open_answer o)
+{
+    xcoff_module_answer m = xcoff_module(file, length);
+    step = "module";
+    ANSWER(m);
+    if (o.number != 0)
+        PROMISE(REFUSED(m, o.number, o.item));
+    if (m.number == 0) {
+        PROMISE(m.bits == o.bits && m.symbols <= 4096 && m.relocations <= 4096 && m.image <= 16777216);
+        PROMISE(m.text.size <= length && m.data.size <= length && m.image >= m.data.size);
+        PROMISE(m.image == (m.bss.size == 0 && m.image == m.data.size ? m.image : m.bss.address - m.data.address + m.bss.size));
+        PROMISE(m.entry.section <= o.sections && m.toc.section <= o.sections);
+    }
+    return m;
+}
+
+/* ---- images */
+
+typedef struct plan {
+    uint64_t text, data;
+    uint64_t *list;
+    size_t places;
+} plan;
+
+static xcoff_call_answer build(plan p, uint8_t *text, size_t tl, uint8_t *data, size_t dl)
+{
+    return xcoff_build(file, length, p.text, p.data, p.list, p.places, text, tl, data, dl);
+}
+
+static xcoff_call_answer move(plan p, plan q, uint8_t *text, size_t tl, uint8_t *data, size_t dl)
+{
+    return xcoff_move(file, length, p.text, p.data, p.list, p.places, q.text, q.data, q.list, q.places, text, tl, data, dl);
+}
+
+/* Buffers of other lengths, and no module at all: refused, and nothing written. */
+static void refused_images(xcoff_module_answer m, plan p, size_t tl, size_t dl)
+{
+    int k;
+    for (k = 0; k < 6; k++) {
+        size_t t = k == 0 ? tl + 1 : k == 1 && tl > 0 ? tl - 1 : tl;
+        size_t d = k == 2 ? dl + 1 : k == 3 && dl > 0 ? dl - 1 : dl;
+        plan q = p;
+        uint8_t *text, *data;
+        xcoff_call_answer b, v;
+        if (k == 4)
+            q.places = p.places + 1;
+        if (k == 5 && p.places > 0)
+            q.places = p.places - 1;
+        if (m.number == 0 && t == tl && d == dl && q.places == p.places)
+            continue;
+        q.list = lend(list_area, 8 * q.places);
+        fill(q.list, 8 * q.places);
+        text = lend(text_area, t);
+        data = lend(data_area, d);
+        fill(text, t);
+        fill(data, d);
+        b = build(q, text, t, data, d);
+        v = move(q, q, text, t, data, d);
+        ANSWER(b);
+        ANSWER(v);
+        PROMISE(b.number != 0 && v.number != 0);
+        if (m.number != 0)
+            PROMISE(REFUSED(b, m.number, m.item) && REFUSED(v, m.number, m.item));
+        else
+            PROMISE(b.number == 19 || b.number == 20);
+        untouched(text, t);
+        untouched(data, d);
+        if (m.number != 0)
+            break;
+    }
+}
+
+/* Two plans: the recorded one, and another. Built, moved there and back, and both by a list of calls. */
+static void images(xcoff_module_answer m)
+{
+    size_t tl = m.text.size, dl = m.image, places = m.symbols, i, k;
+    uint8_t *text, *data, *text2, *data2;
+    plan recorded, other;
+    xcoff_call_answer a, b;
+    xcoff_section_answer s;
+    uint64_t *script;
+    step = "images";
+    recorded.places = other.places = places;
+    recorded.text = m.text.address;
+    recorded.data = m.data.address;
+    if (m.number != 0 || (dl < HEAVY && random_number() % 4 == 0))
+        refused_images(m, recorded, m.number != 0 ? 100 : tl, m.number != 0 ? 60 : dl);
+    if (m.number != 0)
+        return;
+    recorded.list = lend(list_area, 8 * places);
+    other.list = lend(list2_area, 8 * places);
+    table(m, xcoff_loader_symbol_table, 9 * places);
+    {
+        const xcoff_loader_symbol_row *rows = lend(rows_area, 72 * places);
+        for (i = 0; i < places; i++) {
+            recorded.list[i] = rows[i].value;
+            other.list[i] = random_number() & (m.bits == 32 ? UINT32_MAX : UINT64_MAX);
+        }
+    }
+    text = lend(text_area, tl);
+    data = lend(data_area, dl);
+    text2 = lend(text2_area, tl);
+    data2 = lend(data2_area, dl);
+    fill(text, tl);
+    fill(data, dl);
+    step = "the recorded plan";
+    a = build(recorded, text, tl, data, dl);
+    ANSWER(a);
+    PROMISE(a.number == 0);
+    PROMISE(a.has_entry == (m.entry.section != 0) && a.has_toc == (m.toc.section != 0));
+    PROMISE(!a.has_entry || a.entry == m.entry.address);
+    PROMISE(!a.has_toc || a.toc == m.toc.address);
+    s = xcoff_section(file, length, m.text.number);
+    PROMISE(tl == 0 || memcmp(text, file + s.scnptr, tl) == 0);
+    s = xcoff_section(file, length, m.data.number);
+    PROMISE(m.data.size == 0 || memcmp(data, file + s.scnptr, m.data.size) == 0);
+    for (i = m.data.size; i < dl; i++)
+        PROMISE(data[i] == 0);
+    if (dl >= HEAVY)
+        return;
+
+    for (k = 0; k < 2; k++) {
+        /* Small steps, or any addresses at all; those that do not fit are refused. */
+        uint64_t mask = m.bits == 32 ? UINT32_MAX : UINT64_MAX;
+        other.text = k == 0 ? (random_number() & mask) >> 1 : any_number();
+        other.data = k == 0 ? (random_number() & mask) >> 1 : any_number();
+        step = "another plan";
+        fill(text2, tl);
+        fill(data2, dl);
+        b = build(other, text2, tl, data2, dl);
+        ANSWER(b);
+        if (b.number != 0) {
+            PROMISE(b.number == 19);
+            untouched(text2, tl);
+            untouched(data2, dl);
+            a = move(other, recorded, text2, tl, data2, dl);
+            PROMISE(REFUSED(a, b.number, b.item));
+            a = move(recorded, other, text2, tl, data2, dl);
+            PROMISE(REFUSED(a, b.number, b.item));
+            untouched(text2, tl);
+            untouched(data2, dl);
+            continue;
+        }
+        note(text2, tl);
+        note(data2, dl);
+        step = "moved there and back";
+        a = move(recorded, other, text, tl, data, dl);
+        PROMISE(SAME(a, b));
+        PROMISE(memcmp(text, text2, tl) == 0 && memcmp(data, data2, dl) == 0);
+        a = move(other, recorded, text, tl, data, dl);
+        PROMISE(a.number == 0);
+        fill(text2, tl);
+        fill(data2, dl);
+        build(recorded, text2, tl, data2, dl);
+        PROMISE(memcmp(text, text2, tl) == 0 && memcmp(data, data2, dl) == 0);
+        step = "any bytes moved there and back";
+        fill(text2, tl);
+        fill(data2, dl);
+        a = move(recorded, other, text2, tl, data2, dl);
+        b = move(other, recorded, text2, tl, data2, dl);
+        PROMISE(a.number == 0 && b.number == 0);
+        untouched(text2, tl);
+        untouched(data2, dl);
+        step = "a list of calls";
+        script = lend(script_area, 8 * (2 + 3 * (3 + places)));
+        script[0] = 0;
+        script[1 + 3 + places] = any_number() | 1;
+        for (i = 0; i < 3; i++) {
+            plan p = i == 2 ? other : recorded;
+            uint64_t *numbers = script + (i == 0 ? 1 : 2 + i * (3 + places));
+            numbers[0] = p.text;
+            numbers[1] = p.data;
+            numbers[2] = places;
+            memcpy(numbers + 3, p.list, 8 * places);
+        }
+        fill(text2, tl);
+        fill(data2, dl);
+        xcoff_replay(file, length, script, 2 + 3 * (3 + places), text2, tl, data2, dl);
+        a = move(recorded, other, text, tl, data, dl);
+        PROMISE(memcmp(text, text2, tl) == 0 && memcmp(data, data2, dl) == 0);
+        a = move(other, recorded, text, tl, data, dl);
+        PROMISE(a.number == 0);
+    }
+}
+
+/* The input as a sheet, a sheet of its own, and the input as a list of calls. */
+static void sheets(xcoff_module_answer m)
+{
+    xcoff_sheet_answer h = xcoff_sheet_head(file, length), r;
+    xcoff_verdict v;
+    uint64_t *list, *again;
+    uint8_t *sheet, *text, *data;
+    size_t n, k;
+    step = "sheets";
+    ANSWER(h);
+    PROMISE(h.count <= 4096);
+    for (k = 0; k < 2; k++) {
+        list = lend(list_area, 8 * (h.count + k));
+        fill(list, 8 * (h.count + k));
+        r = xcoff_read_sheet(file, length, list, h.count + k);
+        ANSWER(r);
+        if (h.number != 0)
+            PROMISE(REFUSED(r, h.number, h.item));
+        else
+            PROMISE(k == 0 ? SAME(r, h) : REFUSED(r, 20, 2));
+        if (r.number != 0)
+            untouched(list, 8 * (h.count + k));
+    }
+    if (h.number == 0) {
+        /* There is one sheet for a plan: written again, it is the input. */
+        list = lend(list_area, 8 * h.count);
+        xcoff_read_sheet(file, length, list, h.count);
+        sheet = lend(sheet_area, 20 + 8 * h.count);
+        v = xcoff_write_sheet(h.text, h.data, list, h.count, sheet, 20 + 8 * h.count);
+        PROMISE(v.number == 0 && length == 20 + 8 * h.count && memcmp(sheet, file, length) == 0);
+    }
+    n = random_number() % 12;
+    list = lend(list_area, 8 * n);
+    for (k = 0; k < n; k++)
+        list[k] = any_number();
+    sheet = lend(sheet_area, 20 + 8 * n + 1);
+    fill(sheet, 20 + 8 * n + 1);
+    v = xcoff_write_sheet(state, ~state, list, n, sheet, 20 + 8 * n + 1);
+    PROMISE(REFUSED(v, 20, 0));
+    untouched(sheet, 20 + 8 * n + 1);
+    sheet = lend(sheet_area, 20 + 8 * n);
+    v = xcoff_write_sheet(state, ~state, list, n, sheet, 20 + 8 * n);
+    again = lend(list2_area, 8 * n);
+    r = xcoff_read_sheet(sheet, 20 + 8 * n, again, n);
+    PROMISE(v.number == 0 && r.number == 0 && r.text == state && r.data == ~state && r.count == n);
+    PROMISE(memcmp(list, again, 8 * n) == 0);
+
+    step = "the input as a list of calls";
+    if (m.image < HEAVY) {
+        size_t tl = m.number == 0 ? m.text.size : 50, dl = m.number == 0 ? m.image : 70;
+        uint64_t *script = lend(script_area, 8 * (length / 8));
+        memcpy(script, file, 8 * (length / 8));
+        for (k = 0; k + 4 < length / 8 && k < 5; k++)
+            script[k] %= 5;
+        text = lend(text_area, tl);
+        data = lend(data_area, dl);
+        fill(text, tl);
+        fill(data, dl);
+        xcoff_replay(file, length, script, length / 8, text, tl, data, dl);
+        if (m.number != 0) {
+            untouched(text, tl);
+            untouched(data, dl);
+        }
+        note(text, tl);
+        note(data, dl);
+    }
+}
+
+static void nothing(void)
+{
+    xcoff_open_answer o = xcoff_open(NULL, 0);
+    xcoff_walk_answer t = xcoff_symbol_table(NULL, 0, NULL, 0);
+    xcoff_verdict v = xcoff_import_table(NULL, 0, NULL, 0);
+    step = "nothing";
+    PROMISE(REFUSED(o, 1, 0) && REFUSED(t, 1, 0) && REFUSED(v, 1, 0));
+}
+
+static uint64_t run(const uint8_t *input, size_t n)
+{
+    uint64_t both[2];
+    for (at_the_end = 1; at_the_end >= 0; at_the_end--) {
+        uint8_t *copy = lend(file_area, n);
+        xcoff_open_answer o;
+        xcoff_module_answer m;
+        memcpy(copy, input, n);
+        file = copy;
+        length = n;
+        digest = 0xcbf29ce484222325;
+        note(input, n);
+        state = digest | 1;
+        digest = 0xcbf29ce484222325;
+        nothing();
+        o = headers();
+        symbols(o);
+        m = module(o);
+        tables(m);
+        images(m);
+        sheets(m);
+        step = "the end";
+        PROMISE(memcmp(copy, input, n) == 0);
+        both[at_the_end] = digest;
+    }
+    /* The answers do not depend on where things lie. */
+    PROMISE(both[0] == both[1]);
+    return both[0];
+}
+
+static int files(int count, char **names)
+{
+    static uint8_t input[LARGEST];
+    int i;
+    for (i = 0; i < count; i++) {
+        FILE *in = fopen(names[i], "rb");
+        size_t n;
+        if (in == NULL) {
+            perror(names[i]);
+            return 2;
+        }
+        n = fread(input, 1, sizeof input, in);
+        fclose(in);
+        printf("%016llx %s\n", (unsigned long long)run(input, n), names[i]);
+    }
+    return 0;
+}
+
+/* Lends one byte more than there is: the page behind must be hit. For a test of this program itself. */
+static int lie(const char *name)
+{
+    static uint8_t input[LARGEST];
+    FILE *in = fopen(name, "rb");
+    if (in == NULL)
+        return 2;
+    length = fread(input, 1, sizeof input, in);
+    fclose(in);
+    at_the_end = 1;
+    file = memcpy(lend(file_area, length - 1), input, length - 1);
+    return (int)xcoff_walk(file, length).number;
+}
+
+#ifndef PLAIN
+int fuzz_next(const uint8_t **input, size_t *length);
+#endif
+
+int main(int argc, char **argv)
+{
+    size_t i;
+    for (i = 0; i < sizeof made; i++)
+        made[i] = pattern(i);
+    map_all();
+    if (argc == 3 && strcmp(argv[1], "--lie") == 0)
+        return lie(argv[2]);
+    if (argc > 1)
+        return files(argc - 1, argv + 1);
+#ifndef PLAIN
+    {
+        const uint8_t *input;
+        size_t n;
+        while (fuzz_next(&input, &n))
+            if (n <= LARGEST)
+                run(input, n);
+    }
+#endif
+    return 0;
+}
