@@ -135,6 +135,20 @@ fn what_is_missing_is_built_once_and_the_command_runs_where_it_was_called() {
 }
 
 #[test]
+fn a_closed_output_is_not_taken_for_an_empty_one() {
+    let repository = Repository::new("closed");
+    repository.run(&[]);
+    let mut shell = Command::new("bash");
+    shell.args(["-c", "\"$0\" headers a >&-"]);
+    let output = shell.arg(repository.path("xcoff")).output().unwrap();
+    assert_eq!(output.status.code(), Some(3));
+    assert_eq!(
+        String::from_utf8(output.stderr).unwrap(),
+        "xcoff: cannot write standard output: it is closed\n"
+    );
+}
+
+#[test]
 fn what_is_out_of_date_is_built_again() {
     let repository = Repository::new("stale");
     repository.run(&[]);
