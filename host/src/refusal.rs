@@ -42,7 +42,7 @@ impl Refusal {
     pub fn meaning(&self) -> String {
         let i = self.item;
         match self.number {
-            1 => "the file or its header area ends early".into(),
+            1 => "the file ends before its headers do".into(),
             2 => "the file starts with neither 01DF nor 01F7".into(),
             3 => limit(i).into(),
             4 => format!("the flags of section {i} are not allowed"),
@@ -52,18 +52,18 @@ impl Refusal {
             7 => "the string table has length 1, 2 or 3".into(),
             8 => format!("there is no number {i} of what was asked for"),
             9 => format!("the auxiliary entries of symbol {i} pass the table's end"),
-            10 => format!("the name of symbol {i} lies nowhere"),
-            11 => format!("the section of symbol {i} is not there"),
+            10 => format!("the name offset of symbol {i} leads to no name in the string table"),
+            11 => format!("the section number of symbol {i} names no section"),
             12 => format!("symbol {i} has no valid csect entry"),
             13 => format!("the file is not a loadable module: {}", module(i)),
-            14 => format!("thread-local storage: section or relocation entry {i}"),
+            14 => format!("the module has thread-local storage: section {i} is tdata or tbss, or relocation entry {i} is by symbol -1 or -2"),
             15 => format!("the loader section is bad: {}", loader(i)),
-            16 => format!("loader symbol {i} is bad"),
-            17 => format!("relocation entry {i} is bad"),
-            18 => format!("the field of relocation entry {i} meets an earlier one that is not the same"),
+            16 => format!("the type, section, import id or name of loader symbol {i} is bad"),
+            17 => format!("the type, section, address or symbol of relocation entry {i} is bad"),
+            18 => format!("the field of relocation entry {i} shares bytes with an earlier one that is not the same"),
             19 => plan(i),
             20 => format!("the {} is not exactly as long as needed", room(i)),
-            21 => "the plan sheet is malformed".into(),
+            21 => "not a plan sheet: it is short, does not start with 0002, or is not as long as its count says".into(),
             _ => "no such number".into(),
         }
     }
@@ -88,7 +88,7 @@ fn limit(item: u64) -> &'static str {
     match item {
         0 => "the file is longer than 16,777,216 bytes",
         1 => "there are more than 32 sections",
-        2 => "there are more than 4,096 loader symbols or addresses of a sheet",
+        2 => "there are more than 4,096 loader symbols, or addresses in a sheet",
         3 => "there are more than 4,096 relocation entries",
         _ => "the data image is longer than 16,777,216 bytes",
     }
@@ -96,8 +96,8 @@ fn limit(item: u64) -> &'static str {
 
 fn module(item: u64) -> &'static str {
     match item {
-        0 => "its auxiliary header is too short",
-        1 => "it has not exactly one text, data, bss and loader section each",
+        0 => "its auxiliary header is too short (an object file that is not linked has none)",
+        1 => "it has not exactly one text, one data, one bss and one loader section",
         2 => "its auxiliary header and section headers differ",
         3 => "its text, data or loader section has no raw data",
         _ => "its entry or TOC is neither in text nor in data",
@@ -117,16 +117,16 @@ fn loader(item: u64) -> &'static str {
 
 fn plan(item: u64) -> String {
     match item {
-        0 => "the plan's text address does not fit".into(),
-        1 => "the plan's data address does not fit".into(),
-        i => format!("the plan's address of loader symbol {i} does not fit"),
+        0 => "the text image at the plan's text address passes the end of the address space".into(),
+        1 => "the data image at the plan's data address passes the end of the address space".into(),
+        i => format!("the plan's address of loader symbol {i} does not fit in 32 bits"),
     }
 }
 
 fn room(item: u64) -> &'static str {
     match item {
-        0 => "lent buffer for the text image or sheet",
-        1 => "lent buffer for the data image",
+        0 => "text image or sheet",
+        1 => "data image",
         _ => "list of addresses",
     }
 }

@@ -354,7 +354,7 @@ fn an_interrupted_move_is_found_by_check_and_by_the_next_move() {
     assert_eq!(ran.status, Some(1));
     assert_eq!(
         ran.err.lines().nth(1),
-        Some("xcoff: text is for two, data for one: a move was interrupted; build both again")
+        Some("xcoff: text is for two, data for one: a move was interrupted; xcoff build makes both again")
     );
     assert_eq!(folder.read("data"), old);
 }
@@ -368,6 +368,13 @@ fn a_check_says_equal_and_exits_with_0() {
     assert_eq!(
         out,
         "text and data are the images of exe-imports-32 for one.sheet\n"
+    );
+    // Nothing is written, so one file may stand for both images: what it holds decides.
+    let ran = folder.run(&["check", "exe-imports-32", "one.sheet", "text", "text"]);
+    assert_eq!((ran.status, ran.out.as_str()), (Some(1), ""));
+    assert_eq!(
+        ran.err.lines().next(),
+        Some("xcoff: text is the text image for one.sheet")
     );
 }
 
@@ -433,6 +440,6 @@ fn a_check_of_several_sheets_says_which() {
     assert_eq!(ran.err.lines().count(), 4);
     assert_eq!(
         ran.err.lines().last(),
-        Some("xcoff: short.sheet for exe-imports-32: refused 20 2: ROOM, the list of addresses is not exactly as long as needed")
+        Some("xcoff: short.sheet for exe-imports-32 (addresses: 1, loader symbols: 9): refused 20 2: ROOM, the list of addresses is not exactly as long as needed")
     );
 }

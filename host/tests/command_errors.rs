@@ -3,8 +3,10 @@
 mod command_runner;
 
 use command_runner::{real, sheet, without_room, Folder, Ran};
+use std::ffi::OsStr;
 use std::fs::{self, File, Permissions};
 use std::os::fd::OwnedFd;
+use std::os::unix::ffi::OsStrExt;
 use std::os::unix::fs::{chown, symlink, MetadataExt, PermissionsExt};
 use std::os::unix::net::UnixStream;
 use std::os::unix::process::CommandExt;
@@ -86,9 +88,9 @@ fn a_command_line_that_makes_no_sense_is_2() {
 
 const NO_SENSE: [(&str, &str); 14] = [
     ("headers", "FILE is missing"),
-    ("headers a b", "what is b for?"),
+    ("headers a b", "b is one argument too many"),
     ("headers a --fast", "unknown option --fast"),
-    ("headers a \u{1b}[2J", "what is \\u{1b}[2J for?"),
+    ("headers a \u{1b}[2J", "\\x1b[2J is one argument too many"),
     ("headers a --json --json", "--json is given twice"),
     ("headers a --json=1", "--json takes no value after ="),
     ("build m s", "-o TEXT DATA is missing"),
@@ -98,7 +100,7 @@ const NO_SENSE: [(&str, &str); 14] = [
     ("plan m", "-o SHEET is missing"),
     ("move m a b t", "DATA is missing"),
     ("check m a t d --or", "--or needs SHEET"),
-    ("sheet a b c", "what is c for?"),
+    ("sheet a b c", "c is one argument too many"),
 ];
 
 #[test]
@@ -196,7 +198,7 @@ fn an_ambiguous_import_is_chosen_by_its_index() {
     assert_eq!(folder.read("s")[20 + 8 * 8 + 7], 1);
 }
 
-const TWICE: [(&str, &str); 9] = [
+const TWICE: [(&str, &str); 8] = [
     ("plan M -o M", "FILE and SHEET are the same file, M"),
     (
         "build M sheet -o new ./new",
@@ -226,10 +228,6 @@ const TWICE: [(&str, &str); 9] = [
         "move M sheet sheet text data -o new text",
         "TEXT and DATA2 are the same file, text",
     ),
-    (
-        "check M sheet data data",
-        "TEXT and DATA are the same file, data",
-    ),
 ];
 
 #[test]
@@ -255,8 +253,8 @@ fn a_refused_file_is_named_with_its_number() {
     folder.copy("gas-main-32.o");
     folder.copy("exe-oldmagic-64");
     folder.write("empty", b"");
-    let not_module =
-        "xcoff: gas-main-32.o: refused 13 0: MODULE, the file is not a loadable module: its auxiliary header is too short\n";
+    let not_module = "xcoff: gas-main-32.o: refused 13 0: MODULE, the file is not a loadable module: \
+                      its auxiliary header is too short (an object file that is not linked has none)\n";
     for command in ["module", "imports", "relocations"] {
         folder.fails(&[command, "gas-main-32.o"], 1, not_module);
     }
@@ -279,7 +277,7 @@ fn a_refused_file_is_named_with_its_number() {
     folder.fails(&["sheet", "sheet", "gas-main-32.o"], 1, not_module);
     let magic =
         "xcoff: exe-oldmagic-64: refused 2 0: MAGIC, the file starts with neither 01DF nor 01F7\n";
-    let short = "xcoff: empty: refused 1 0: SHORT, the file or its header area ends early\n";
+    let short = "xcoff: empty: refused 1 0: SHORT, the file ends before its headers do\n";
     for command in ["headers", "symbols"] {
         folder.fails(&[command, "exe-oldmagic-64"], 1, magic);
         folder.fails(&[command, "empty"], 1, short);
@@ -307,25 +305,26 @@ fn a_file_over_the_limit_is_judged_by_the_library() {
     folder.fails(
         &["sheet", "/dev/zero"],
         1,
-        "xcoff: /dev/zero: refused 21 0: SHEET, the plan sheet is malformed\n",
+        &format!("xcoff: /dev/zero: {NO_SHEET}"),
     );
     folder.fails(
         &["check", M, "sheet", "/dev/zero", "data"],
         1,
-        "xcoff: /dev/zero (16777217 bytes, where the text image of exe-imports-32 has 160): refused 20 0: ROOM, \
-         the lent buffer for the text image or sheet is not exactly as long as needed\n",
+        "xcoff: /dev/zero (more than 16777216 bytes, where the text image of exe-imports-32 has 160): \
+         refused 20 0: ROOM, the text image or sheet is not exactly as long as needed\n",
     );
 }
 
-const CUT: &str = "cut: refused 21 0: SHEET, the plan sheet is malformed\n";
+const NO_SHEET: &str = "refused 21 0: SHEET, not a plan sheet: \
+                        it is short, does not start with 0002, or is not as long as its count says\n";
 const MANY: &str =
-    "many: refused 3 2: LIMIT, there are more than 4,096 loader symbols or addresses of a sheet\n";
-const SHORT: &str =
-    "short for exe-imports-32: refused 20 2: ROOM, the list of addresses is not exactly as long as needed\n";
-const HIGH: &str =
-    "high for exe-imports-32: refused 19 0: PLAN, the plan's text address does not fit\n";
-const IMPORT: &str =
-    "import for exe-imports-32: refused 19 4: PLAN, the plan's address of loader symbol 4 does not fit\n";
+    "many: refused 3 2: LIMIT, there are more than 4,096 loader symbols, or addresses in a sheet\n";
+const SHORT: &str = "short for exe-imports-32 (addresses: 8, loader symbols: 9): \
+                     refused 20 2: ROOM, the list of addresses is not exactly as long as needed\n";
+const HIGH: &str = "high for exe-imports-32: refused 19 0: PLAN, \
+                    the text image at the plan's text address passes the end of the address space\n";
+const IMPORT: &str = "import for exe-imports-32: refused 19 4: PLAN, \
+                      the plan's address of loader symbol 4 does not fit in 32 bits\n";
 
 #[test]
 fn a_refused_sheet_or_plan_is_named_with_its_number() {
@@ -336,7 +335,8 @@ fn a_refused_sheet_or_plan_is_named_with_its_number() {
     folder.write("high", &sheet(0xffff_ff61, 0, &[0; 9]));
     folder.write("import", &sheet(0, 0, &[0, 1 << 32, 0, 0, 0, 0, 0, 0, 0]));
     let refused = |args: &[&str], text: &str| folder.fails(args, 1, &format!("xcoff: {text}"));
-    for text in [CUT, MANY, SHORT, HIGH, IMPORT] {
+    let cut = format!("cut: {NO_SHEET}");
+    for text in [&cut, MANY, SHORT, HIGH, IMPORT] {
         let name = text.split([' ', ':']).next().unwrap();
         refused(&["build", M, name, "-o", "t", "d"], text);
         refused(&["check", M, name, "text", "data"], text);
@@ -353,7 +353,8 @@ fn a_refused_sheet_or_plan_is_named_with_its_number() {
     refused(&["move", M, "high", "import", "text", "data"], HIGH);
     refused(
         &["plan", M, "--data", "ffffff61", "-o", "t"],
-        "the plan for exe-imports-32: refused 19 1: PLAN, the plan's data address does not fit\n",
+        "the plan for exe-imports-32: refused 19 1: PLAN, \
+         the data image at the plan's data address passes the end of the address space\n",
     );
     assert!(!folder.path("t").exists() && !folder.path("d").exists());
 }
@@ -364,9 +365,9 @@ fn images_of_the_wrong_length_are_refused() {
     folder.write("longer", &[&folder.read("data")[..], &[0]].concat());
     folder.write("none", b"");
     let data = "xcoff: longer (161 bytes, where the data image of exe-imports-32 has 160): refused 20 1: ROOM, \
-                the lent buffer for the data image is not exactly as long as needed\n";
+                the data image is not exactly as long as needed\n";
     let text = "xcoff: none (0 bytes, where the text image of exe-imports-32 has 160): refused 20 0: ROOM, \
-                the lent buffer for the text image or sheet is not exactly as long as needed\n";
+                the text image or sheet is not exactly as long as needed\n";
     for unchecked in [&[][..], &["--unchecked"]] {
         let moved = ["move", M, "sheet", "sheet"];
         folder.fails(
@@ -418,8 +419,14 @@ fn a_file_that_cannot_be_read_is_named() {
     folder.fails(
         &["headers", "\u{1b}[2J"],
         3,
-        "xcoff: cannot read \\u{1b}[2J: No such file or directory\n",
+        "xcoff: cannot read \\x1b[2J: No such file or directory\n",
     );
+    // A name may be any bytes; two that differ are told apart.
+    let mut command = folder.command(&["headers"]);
+    command.arg(OsStr::from_bytes(b"caf\xc3\xa9\xff\xc2\x80 \\"));
+    let ran = Ran::of(command.output().unwrap());
+    let text = "xcoff: cannot read caf\u{e9}\\xff\\xc2\\x80 \\: No such file or directory\n";
+    assert_eq!((ran.status, ran.err.as_str()), (Some(3), text));
 }
 
 fn am_root(folder: &Folder) -> bool {
@@ -515,8 +522,45 @@ fn a_full_disk_or_closed_pipe_under_a_listing_is_3() {
     assert_eq!(ran.status, Some(3));
 }
 
-const NOT_WRITTEN: [(&str, &str); 8] = [
+/// Files that are written and cannot be told of: the reason says that they are new.
+#[test]
+fn a_full_disk_under_the_line_that_tells_of_new_files_is_3() {
+    let folder = bench();
+    let runs = [
+        ("plan", "plan M -o new", "wrote new (92 bytes): text "),
+        (
+            "build",
+            "build M sheet -o new d",
+            "built new (160 bytes) and d ",
+        ),
+        (
+            "move",
+            "move M sheet sheet text data -o new d",
+            "moved new (160 bytes) and d ",
+        ),
+    ];
+    for (command, words, start) in runs {
+        let words = words.replace('M', M);
+        let words: Vec<&str> = words.split(' ').collect();
+        let full = File::options().write(true).open("/dev/full").unwrap();
+        let ran = Ran::of(folder.command(&words).stdout(full).output().unwrap());
+        let end = "; but cannot write standard output: No space left on device\n";
+        assert_eq!(ran.status, Some(3), "{command}");
+        assert!(
+            ran.err.starts_with(&format!("xcoff: {start}")),
+            "{}",
+            ran.err
+        );
+        assert!(ran.err.ends_with(end), "{}", ran.err);
+        fs::remove_file(folder.path("new")).unwrap();
+    }
+}
+
+const NOT_WRITTEN: [(&str, &str); 11] = [
     ("dir", "dir: it is a directory"),
+    ("dir/", "dir/: it names a directory"),
+    ("none/", "none/: it names a directory"),
+    ("none/.", "none/.: it names a directory"),
     ("/dev/full", "/dev/full: it is not a regular file"),
     ("/dev/null", "/dev/null: it is not a regular file"),
     (

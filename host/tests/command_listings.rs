@@ -227,7 +227,7 @@ fn a_walk_that_stops_is_listed_up_to_there() {
     assert_eq!(rows(&ran.out, "index").len(), 2);
     assert_eq!(
         ran.err,
-        "xcoff: gas-stabs-32.o: refused 10 4: NAME, the name of symbol 4 lies nowhere\n"
+        "xcoff: gas-stabs-32.o: refused 10 4: NAME, the name offset of symbol 4 leads to no name in the string table\n"
     );
 }
 

@@ -129,13 +129,13 @@ fn a_refusal_is_told_in_words() {
         number: 13,
         item: 0,
     };
-    assert_eq!(r.to_string(), "refused 13 0: MODULE, the file is not a loadable module: its auxiliary header is too short");
+    assert_eq!(r.to_string(), "refused 13 0: MODULE, the file is not a loadable module: its auxiliary header is too short (an object file that is not linked has none)");
     let r = Refusal {
         number: 17,
         item: 5,
     };
     assert_eq!(
         r.to_string(),
-        "refused 17 5: LREL, relocation entry 5 is bad"
+        "refused 17 5: LREL, the type, section, address or symbol of relocation entry 5 is bad"
     );
 }

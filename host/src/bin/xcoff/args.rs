@@ -105,7 +105,8 @@ impl Arguments {
             return Err(self.wrong(format!("{missing} is missing")));
         }
         if let Some(extra) = self.operands.get(syntax.operands.len() + syntax.optional) {
-            return Err(self.wrong(format!("what is {} for?", escape::argument(extra))));
+            let extra = escape::argument(extra);
+            return Err(self.wrong(format!("{extra} is one argument too many")));
         }
         match syntax
             .options

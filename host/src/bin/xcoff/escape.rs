@@ -1,5 +1,6 @@
 //! Bytes of others as text that is safe to print: no name reaches a terminal as it stands.
 
+use std::os::unix::ffi::OsStrExt;
 use std::path::Path;
 
 /// Bytes of a name that are shown. Names may share their bytes, so that without it a listing could be far longer than
@@ -79,18 +80,27 @@ fn digit(byte: u8) -> Option<u8> {
     (byte as char).to_digit(16).map(|d| d as u8)
 }
 
-/// A path or an argument of the command line, without control characters; `''` where it is empty.
+/// A path or an argument of the command line: control characters and bytes that are no UTF-8 as `\xNN`; `''` where it
+/// is empty.
 pub fn argument(text: impl AsRef<Path>) -> String {
-    let shown = text.as_ref().to_string_lossy();
-    if shown.is_empty() {
+    let bytes = text.as_ref().as_os_str().as_bytes();
+    if bytes.is_empty() {
         return "''".to_string();
     }
     let mut out = String::new();
-    for c in shown.chars() {
-        match c.is_control() {
-            true => out.extend(c.escape_default()),
-            false => out.push(c),
-        }
+    for chunk in bytes.utf8_chunks() {
+        chunk.valid().chars().for_each(|c| push_char(c, &mut out));
+        chunk.invalid().iter().for_each(|&b| push_hex(b, &mut out));
     }
     out
+}
+
+fn push_char(c: char, out: &mut String) {
+    if c.is_control() {
+        let mut bytes = [0; 4];
+        let bytes = c.encode_utf8(&mut bytes).bytes();
+        bytes.for_each(|byte| push_hex(byte, out));
+    } else {
+        out.push(c);
+    }
 }

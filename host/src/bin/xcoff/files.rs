@@ -4,6 +4,7 @@ use crate::escape;
 use crate::problem::Problem;
 use std::fs::{self, File, Metadata, OpenOptions, Permissions};
 use std::io::{self, ErrorKind, Read, Write};
+use std::os::unix::ffi::OsStrExt;
 use std::os::unix::fs::{fchown, MetadataExt, OpenOptionsExt, PermissionsExt};
 use std::path::{Path, PathBuf};
 
@@ -20,6 +21,14 @@ pub fn read(path: &Path, most: u64) -> Result<Vec<u8>, Problem> {
         Ok(bytes)
     };
     read().map_err(|e| Problem::system(format!("cannot read {}", escape::argument(path)), &e))
+}
+
+/// How long an image file is, which is not known where it was not read to its end.
+pub fn length(image: &[u8]) -> String {
+    match image.len() as u64 {
+        IMAGE => format!("more than {} bytes", IMAGE - 1),
+        bytes => format!("{bytes} bytes"),
+    }
 }
 
 /// Whether two paths lead to the same file, be it there or not.
@@ -131,6 +140,10 @@ fn write_beside(path: &Path, bytes: &[u8]) -> io::Result<New> {
 
 /// What stands at the target and may be replaced: nothing, or a plain file that is not write-protected.
 fn old_file(path: &Path) -> io::Result<Option<Metadata>> {
+    let name = path.as_os_str().as_bytes();
+    if name.ends_with(b"/") || name.ends_with(b"/.") {
+        return Err(io::Error::other("it names a directory"));
+    }
     let old = match fs::metadata(path) {
         Ok(old) => old,
         Err(e) if e.kind() == ErrorKind::NotFound => return Ok(None),

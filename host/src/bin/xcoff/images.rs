@@ -6,7 +6,7 @@ use crate::escape;
 use crate::files;
 use crate::lists::image_word;
 use crate::load::{apart, Loaded, Pair, Sheet};
-use crate::output::{complain, reached_words, say};
+use crate::output::{complain, reached_words, say, say_done};
 use crate::problem::Problem;
 use std::path::Path;
 use xcoff::{Image, Reached, Refusal};
@@ -29,7 +29,7 @@ fn write(
     reached: &Reached,
 ) -> Result<(), Problem> {
     files::replace(&[(out[0], &pair.text), (out[1], &pair.data)])?;
-    say(&format!(
+    say_done(&format!(
         "{done} {} ({} bytes) and {} ({} bytes): {}",
         escape::argument(out[0]),
         pair.text.len(),
@@ -86,17 +86,17 @@ impl<'p> Found<'p> {
             (20, 0) => Image::Text,
             (20, 1) => Image::Data,
             // A move does not say which of its plans it is: a build for the first one does.
-            _ if file.build(&from.plan).err() == Some(*refusal) => return file.with(from.path),
-            _ => return file.with(to.path),
+            _ if file.build(&from.plan).err() == Some(*refusal) => return file.with(from, refusal),
+            _ => return file.with(to, refusal),
         };
         let (path, needed) = match image {
             Image::Text => (self.paths[0], file.module.text.size),
             Image::Data => (self.paths[1], file.module.image),
         };
         format!(
-            "{} ({} bytes, where the {} image of {} has {needed})",
+            "{} ({}, where the {} image of {} has {needed})",
             escape::argument(path),
-            self.pair.image(image).len(),
+            files::length(self.pair.image(image)),
             image_word(image),
             escape::argument(file.path)
         )
@@ -188,7 +188,7 @@ fn interrupted(
         _ => return None,
     };
     Some(format!(
-        "xcoff: {} is for {}, {} for {}: a move was interrupted; build both again",
+        "xcoff: {} is for {}, {} for {}: a move was interrupted; xcoff build makes both again",
         escape::argument(found.paths[0]),
         escape::argument(sheets[text_plan].path),
         escape::argument(found.paths[1]),
@@ -198,7 +198,6 @@ fn interrupted(
 
 pub fn check(args: &Arguments) -> Result<(), Problem> {
     let (text, data) = (args.path(2), args.path(3));
-    apart(args, &[("DATA", data)], &[("TEXT", text)])?;
     let file = Loaded::read(args.path(0))?;
     let others = args.each("--or").map(|value| Path::new(&value[0]));
     let sheets = [args.path(1)]

@@ -58,18 +58,26 @@ impl<'p> Loaded<'p> {
     pub fn build_sheet(&self, sheet: &Sheet) -> Result<(Pair, Reached), Problem> {
         let built = self.build(&sheet.plan);
         built.map_err(|refusal| Problem::Refused {
-            about: self.with(sheet.path),
+            about: self.with(sheet, &refusal),
             refusal,
         })
     }
 
-    /// "SHEET for FILE".
-    pub fn with(&self, sheet: &Path) -> String {
-        format!(
+    /// "SHEET for FILE", with the counts where these are what is refused.
+    pub fn with(&self, sheet: &Sheet, refusal: &Refusal) -> String {
+        let both = format!(
             "{} for {}",
-            escape::argument(sheet),
+            escape::argument(sheet.path),
             escape::argument(self.path)
-        )
+        );
+        match (refusal.number, refusal.item) {
+            (20, 2) => format!(
+                "{both} (addresses: {}, loader symbols: {})",
+                sheet.plan.list.len(),
+                self.module.symbols
+            ),
+            _ => both,
+        }
     }
 }
 

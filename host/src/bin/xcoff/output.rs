@@ -20,6 +20,18 @@ pub fn say(line: &str) -> Result<(), Problem> {
     print(|out| writeln!(out, "{line}"))
 }
 
+/// Prints one line about files that are written. Where that fails, whoever reads the reason must not take them for
+/// the old ones.
+pub fn say_done(line: &str) -> Result<(), Problem> {
+    say(line).map_err(|problem| match problem {
+        Problem::System { doing, reason } => Problem::System {
+            doing: format!("{line}; but {doing}"),
+            reason,
+        },
+        other => other,
+    })
+}
+
 /// An answer about one file.
 pub fn refused<T>(path: &Path, answer: Result<T, Refusal>) -> Result<T, Problem> {
     answer.map_err(|refusal| Problem::Refused {

@@ -6,7 +6,7 @@ use crate::files;
 use crate::listing::{hex, number, word, Cell, Column, Listing};
 use crate::lists::use_word;
 use crate::load::{apart, Loaded, Sheet};
-use crate::output::{print, reached_words, refused, say};
+use crate::output::{print, reached_words, refused, say_done};
 use crate::problem::Problem;
 use std::ffi::OsStr;
 use std::io;
@@ -43,7 +43,7 @@ pub fn plan(args: &Arguments) -> Result<(), Problem> {
     let sheet = refused(out, xcoff::write_sheet(&plan))?;
     files::replace(&[(out, &sheet)])?;
     let d = file.digits();
-    say(&format!(
+    say_done(&format!(
         "wrote {} ({} bytes): text {:0d$x}, data {:0d$x}, {} of {} imports given; {}",
         escape::argument(out),
         sheet.len(),

@@ -203,9 +203,10 @@ bytes is cut and ends in \\... instead. With --json each row is one object.
 ";
 
 const HEADERS: &str = "\
-Lists the file header and every section header: the section's number, its kind,
-its two addresses, its size, where its raw data lies in the file and whether
-there is any, and its name.
+Lists the file header (its sections, the entries of its symbol table, the bytes
+of its auxiliary header, its flags) and every section header: the section's
+number, its kind, its physical and virtual address, its size in bytes, where its
+raw data lies in the file and whether there is any, and its name.
 
   xcoff headers diag.xcoff
 
@@ -229,7 +230,9 @@ const MODULE: &str = "\
 Judges a file as a loadable module, down to its last relocation entry, and lists
 its parts ('image' is the data image: data, zeros up to bss, bss), its entry
 and TOC, and its loader symbols. Of these a plan gives an address to each that is
-used as 'import'; 'deferred' imports and 'defined' symbols need none.
+used as 'import'; 'deferred' imports and 'defined' symbols need none. 'type' and
+'parm' are as the file has them; an import's type has bit 40. An object file (.o)
+is no module before it is linked: refused 13.
 
   xcoff module diag.xcoff
 
@@ -248,9 +251,9 @@ a symbol means a deferred import, which no plan gives an address.
 
 const RELOCATIONS: &str = "\
 Lists the relocation entries in the order of the table: the field's recorded
-address, its image and the offset in it, its bits, whether the symbol's address
-is added or subtracted, the type, and the symbol (0 text, 1 data, 2 bss, from 3 a
-loader symbol). Only these fields depend on a plan.
+address, its image and the offset in it, its bits, whether what the symbol moves
+by is added or subtracted, the type, and the symbol (0 text, 1 data, 2 bss, from
+3 a loader symbol). Only these fields depend on a plan.
 
   xcoff relocations diag.xcoff
 
@@ -259,21 +262,25 @@ loader symbol). Only these fields depend on a plan.
 
 const PLAN: &str = "\
 Writes a plan sheet for a module: where its text, its data and its imports are in
-one card's memory. What is not given is as recorded in the file. A sheet that a
-build would refuse is not written.
+one card's memory. What is not given is as recorded in the file, which for an
+import is mostly 0: 'xcoff imports FILE' lists them, 'xcoff sheet SHEET FILE' shows
+what each got. A sheet that a build would refuse is not written; whether images
+overlap on the card is not looked at.
 
   xcoff plan diag.xcoff --text 10000 --data 80000 --import puts=fff01200 -o card7.sheet
 
---text HEX         the text image's address
---data HEX         the data image's address; bss moves with it
---import NAME=HEX  the address of an import, its name as listings show it
---import @INDEX=HEX  the same, by loader symbol index, where names are ambiguous
--o SHEET           the sheet to write; an old one is replaced whole
+--text HEX           the text image's address, with or without 0x before it
+--data HEX           the data image's address; bss moves with it
+--import NAME=HEX    the address of an import, its name as listings show it
+--import @INDEX=HEX  the same by the index that listings show, where two imports
+                     have one name
+-o SHEET             the sheet to write; an old one is replaced whole
 ";
 
 const SHEET: &str = "\
 Prints a plan sheet. With FILE, the module that it is for, also which loader symbol
-each address belongs to; a sheet that does not fit the module is refused.
+each address belongs to; a sheet that does not fit the module is refused. A sheet
+does not name its module: one of another module with as many loader symbols fits.
 
   xcoff sheet card7.sheet diag.xcoff
 
@@ -296,6 +303,8 @@ place or, with -o, into other files. FROM must be the sheet that they are for:
 moving images a second time makes wrong ones. So the relocated fields are compared
 with those of FROM first; where they differ the command shows them, changes nothing
 and exits with 1. Other bytes that are not the module's are kept, with a warning.
+'xcoff check' with --or finds the sheet that images are for, 'xcoff build' makes
+them anew.
 
   xcoff move diag.xcoff card7.sheet card9.sheet card7.text card7.data -o card9.text card9.data
 
