@@ -4,7 +4,8 @@
  *     cc -Iinclude examples/build_images.c target/staticlib/libxcoff_c.a -o build_images
  *     ./build_images FILE TEXT_ADDRESS DATA_ADDRESS TEXT_OUT DATA_OUT
  *
- * Addresses are hexadecimal. Imports keep the addresses that the file records.
+ * Addresses are hexadecimal. Imports keep the addresses that the file records. Status 0 done, 1 refused (the numbers are
+ * those of xcoff.h), 2 usage, 3 refused by the system.
  */
 #include "xcoff.h"
 
@@ -54,7 +55,7 @@ static uint64_t *recorded(size_t length, uint64_t symbols)
     accept("loader symbols", v.number, v.item);
     for (uint64_t k = 0; k < symbols; k++) {
         list[k] = rows[k].value;
-        if (rows[k].smtype & 0x40)
+        if ((rows[k].smtype & 0x40) && rows[k].ifile != 0)
             printf("import %" PRIu64 " at %" PRIx64 ": %.*s\n", rows[k].index, rows[k].value, (int)rows[k].name_length,
                    (const char *)file + rows[k].name);
     }
@@ -62,23 +63,47 @@ static uint64_t *recorded(size_t length, uint64_t symbols)
     return list;
 }
 
+static void usage(void)
+{
+    fprintf(stderr, "usage: build_images FILE TEXT_ADDRESS DATA_ADDRESS TEXT_OUT DATA_OUT\n");
+    exit(2);
+}
+
+static uint64_t address(const char *word)
+{
+    char *end;
+    uint64_t value = strtoull(word, &end, 16);
+    if (end == word || *end != 0)
+        usage();
+    return value;
+}
+
+static size_t load(const char *name)
+{
+    FILE *f = fopen(name, "rb");
+    size_t length = f ? fread(file, 1, sizeof file, f) : 0;
+    if (!f || ferror(f)) {
+        fprintf(stderr, "%s: cannot be read\n", name);
+        exit(3);
+    }
+    fclose(f);
+    return length;
+}
+
 int main(int count, char **words)
 {
-    FILE *f = count == 6 ? fopen(words[1], "rb") : NULL;
-    if (!f) {
-        fprintf(stderr, "usage: build_images FILE TEXT_ADDRESS DATA_ADDRESS TEXT_OUT DATA_OUT\n");
-        return 2;
-    }
-    size_t length = fread(file, 1, sizeof file, f);
-    fclose(f);
+    if (count != 6)
+        usage();
+    uint64_t text_address = address(words[2]), data_address = address(words[3]);
+    size_t length = load(words[1]);
 
     xcoff_module_answer m = xcoff_module(file, length);
     accept(words[1], m.number, m.item);
     uint64_t *list = recorded(length, m.symbols);
     uint8_t *text = lend(m.text.size, 1);
     uint8_t *data = lend(m.image, 1);
-    xcoff_call_answer a = xcoff_build(file, length, strtoull(words[2], NULL, 16), strtoull(words[3], NULL, 16), list, m.symbols,
-                                      text, m.text.size, data, m.image);
+    xcoff_call_answer a = xcoff_build(file, length, text_address, data_address, list, m.symbols, text, m.text.size, data,
+                                      m.image);
     accept("plan", a.number, a.item);
     if (a.has_entry)
         printf("entry at %" PRIx64 "\n", a.entry);

@@ -1,15 +1,21 @@
 /*
- * XCOFF files read by a proved library (target/staticlib/libxcoff_c.a).
+ * XCOFF files read by a proved library. `rt staticlib xcoff_c` in the repository's root makes it, as does the first run
+ * of ./xcoff; of the C library it needs memcpy and memset. A program over it is compiled there by
+ *
+ *     cc -Iinclude PROGRAM.c target/staticlib/libxcoff_c.a -o PROGRAM
+ *
+ * examples/build_images.c is one.
  *
  * Every function takes the whole file as a pointer and a length, judges it from the start and keeps nothing between
  * calls: nothing has to be opened, closed or checked beforehand, and any bytes are allowed. A file of length 0 may have
  * a null pointer. The library allocates nothing, has no global state and may be called from several threads at once.
  * A call takes less than 512 KiB of stack.
  *
- * What you must see to: a pointer is good for its length, and nobody else writes there during the call. Memory that is
- * lent for writing must not overlap the file or other lent memory. The proof takes this for granted; it is the one thing
- * that it cannot check. No function changes a byte of the file. What a function writes into is not `const`, and its
- * comment says what it holds afterwards; a refusal leaves it as it was. Lent memory of length 0 may have a null pointer.
+ * What you must see to: a pointer is good for its length, which counts bytes, or 64-bit numbers where it points to these,
+ * and nobody else writes there during the call. Memory that is lent for writing must not overlap the file or other lent
+ * memory. The proof takes this for granted; it is the one thing that it cannot check. No function changes a byte of the
+ * file. What a function writes into is not `const`, and its comment says what it holds afterwards; a refusal leaves it
+ * as it was. Lent memory of length 0 may have a null pointer.
  *
  * Every answer starts with `number` and `item`. Number 0: accepted. Otherwise the call is refused, the number says why,
  * the item what it is about, and every other field is 0.
@@ -17,15 +23,15 @@
  *   number       why                                                       item
  *    1 SHORT     file or header area ends early                            0
  *    2 MAGIC     not 01DF (32 bits) or 01F7 (64 bits)                      0
- *    3 LIMIT     above a limit: 16,777,216 bytes of file; 32 sections;     0 file, 1 sections, 2 loader symbols,
- *                4,096 loader symbols; 4,096 relocation entries;           3 relocation entries, 4 data image
- *                16,777,216 bytes of data image
+ *    3 LIMIT     above a limit: 16,777,216 bytes of file; 32 sections;     0 file, 1 sections, 2 loader symbols or
+ *                4,096 loader symbols or addresses in a sheet; 4,096       addresses, 3 relocation entries,
+ *                relocation entries; 16,777,216 bytes of data image        4 data image
  *    4 KIND      section flags not allowed                                 section
  *    5 BOUNDS    raw data, symbol or string table past the file's end      section, or 0
  *    6 ADDRESS   a section's addresses differ or pass the address space;   section
  *                a module's bss below the end of its data
  *    7 STRINGS   string table length 1 to 3                                0
- *    8 INDEX     no such section, symbol, loader symbol or import id       the one asked for
+ *    8 INDEX     no such section, symbol, loader symbol or import id       the number asked for
  *    9 AUX       a symbol's auxiliary entries pass the table's end         index
  *   10 NAME      bad name offset                                           index
  *   11 SECTION   the symbol's section number names no section              index
@@ -38,12 +44,15 @@
  *   15 LOADER    loader header or table bad                                0 short; 1 version; past the section:
  *                                                                          2 symbols, 3 relocations, 4 import ids,
  *                                                                          5 strings
- *   16 LSYM      loader symbol bad                                         its index, from 3
- *   17 LREL      relocation entry bad                                      entry, from 0
- *   18 OVERLAP   field meets an earlier one that is not the same           the later entry
- *   19 PLAN      an address does not fit                                   0 text, 1 data, or the import's index
+ *   16 LSYM      type, section, import id or name of a loader symbol bad   its index, from 3
+ *   17 LREL      type, section, address or symbol of a relocation entry    entry, from 0
+ *                bad
+ *   18 OVERLAP   field shares bytes with an earlier one that is not the    the later entry
+ *                same
+ *   19 PLAN      an image passes the end of the address space, or an       0 text, 1 data, or the import's index
+ *                address of XCOFF32 has more than 32 bits
  *   20 ROOM      lent memory not exactly as long as needed                 0 text, sheet or rows; 1 data; 2 list
- *   21 SHEET     malformed plan sheet                                      0
+ *   21 SHEET     not a plan sheet, or one of the wrong length              0
  *
  * Sections are numbered from 1, symbols from 0, loader symbols from 3 (0, 1 and 2 stand for text, data and bss), import
  * ids from 0. An index may be any number: INDEX is the answer where there is no such thing.
@@ -165,7 +174,7 @@ typedef struct xcoff_loader_symbol_answer {
     uint64_t scnum;     /* section; 0 for an import */
     uint64_t smtype;    /* bit 40 hex: imported */
     uint64_t smclas;    /* storage mapping class */
-    uint64_t ifile;     /* import id; 0 for a deferred import */
+    uint64_t ifile;     /* import id; 0 for a deferred import, which no plan places */
     uint64_t parm;
 } xcoff_loader_symbol_answer;
 
@@ -232,8 +241,10 @@ xcoff_sheet_answer xcoff_read_sheet(const uint8_t *sheet, size_t length, uint64_
 xcoff_verdict xcoff_write_sheet(uint64_t text, uint64_t data, const uint64_t *list, size_t places, uint8_t *sheet, size_t length);
 
 /*
- * A plan is a text address, a data address and a list with a place for each loader symbol (xcoff_module: symbols). The
- * text buffer has exactly text.size bytes, the data buffer image bytes. A refusal leaves both buffers as they were.
+ * A plan is a text address, a data address and a list with a place for each loader symbol (xcoff_module: symbols):
+ * list[i - 3] is the address of loader symbol i. Only the places of imports whose ifile is not 0 are used; the others may
+ * hold anything. The text buffer has exactly text.size bytes, the data buffer exactly image bytes, text.size and image
+ * being those of xcoff_module. A refusal leaves both buffers as they were.
  *
  * xcoff_build writes the images for a plan. xcoff_move moves images from one plan to another and takes the buffers as
  * they are: moving images twice, or from a plan that they are not for, makes wrong images without a refusal.
@@ -249,7 +260,7 @@ xcoff_call_answer xcoff_move(const uint8_t *file, size_t length, uint64_t from_t
 /*
  * Runs a list of calls, encoded as numbers: 0 and a plan is a build, any other number and two plans a move; a plan is
  * its text address, its data address, how many addresses its list has, and those. What is cut short ends the list; a
- * call that is refused changes nothing and does not end it.
+ * call that is refused changes nothing and does not end it. Nothing is answered: the buffers hold what the calls leave.
  */
 void xcoff_replay(const uint8_t *file, size_t length, const uint64_t *script, size_t numbers, uint8_t *text,
                   size_t text_length, uint8_t *data, size_t data_length);
