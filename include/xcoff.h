@@ -1,6 +1,6 @@
 /*
  * XCOFF files read by a proved library. `rt staticlib xcoff_c` in the repository's root makes it, as does the first run
- * of ./xcoff; of the C library it needs memcpy and memset. A program over it is compiled there by
+ * of ./xcoff; it is for x86-64 and needs memcpy and memset of the C library. A program over it is compiled there by
  *
  *     cc -Iinclude PROGRAM.c target/staticlib/libxcoff_c.a -o PROGRAM
  *
