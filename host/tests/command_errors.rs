@@ -556,6 +556,27 @@ fn a_full_disk_under_the_line_that_tells_of_new_files_is_3() {
     }
 }
 
+#[test]
+fn a_file_that_is_printed_to_is_not_replaced() {
+    let folder = bench();
+    for (name, redirect) in [
+        ("log", ">>log"),
+        ("/dev/stdout", ">>log"),
+        ("log", "2>>log"),
+    ] {
+        folder.write("log", b"keep\n");
+        let mut shell = Command::new("bash");
+        let line = format!("\"$0\" plan {M} -o {name} {redirect}");
+        shell.current_dir(folder.path("")).args(["-c", &line]);
+        let output = shell.arg(env!("CARGO_BIN_EXE_xcoff")).output().unwrap();
+        let ran = Ran::of(output);
+        assert_eq!((ran.status, ran.out.as_str()), (Some(3), ""), "{line}");
+        let text = format!("xcoff: cannot write {name}: what is printed goes there\n");
+        let log = String::from_utf8(folder.read("log")).unwrap();
+        assert_eq!(log + &ran.err, format!("keep\n{text}"), "{line}");
+    }
+}
+
 const NOT_WRITTEN: [(&str, &str); 11] = [
     ("dir", "dir: it is a directory"),
     ("dir/", "dir/: it names a directory"),

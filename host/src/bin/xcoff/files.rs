@@ -158,7 +158,19 @@ fn old_file(path: &Path) -> io::Result<Option<Metadata>> {
     if old.mode() & 0o222 == 0 {
         return Err(io::Error::other("it is write-protected"));
     }
+    if is_printed_to(&old) {
+        return Err(io::Error::other("what is printed goes there"));
+    }
     Ok(Some(old))
+}
+
+/// Whether standard output or standard error goes to the file: to replace it would lose what is printed, and with `>>`
+/// all that stood there before.
+fn is_printed_to(file: &Metadata) -> bool {
+    let identity = |m: &Metadata| (m.dev(), m.ino());
+    ["/dev/stdout", "/dev/stderr"]
+        .iter()
+        .any(|stream| fs::metadata(stream).is_ok_and(|m| identity(&m) == identity(file)))
 }
 
 /// Where a path leads: symbolic links are followed, so that a link stays and its target is replaced.
