@@ -96,7 +96,7 @@ fn limit(item: u64) -> &'static str {
 
 fn module(item: u64) -> &'static str {
     match item {
-        0 => "its auxiliary header is too short (an object file that is not linked has none)",
+        0 => "its auxiliary header is too short, as in an object file that is not linked",
         1 => "it has not exactly one text, one data, one bss and one loader section",
         2 => "its auxiliary header and section headers differ",
         3 => "its text, data or loader section has no raw data",

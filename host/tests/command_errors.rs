@@ -254,7 +254,7 @@ fn a_refused_file_is_named_with_its_number() {
     folder.copy("exe-oldmagic-64");
     folder.write("empty", b"");
     let not_module = "xcoff: gas-main-32.o: refused 13 0: MODULE, the file is not a loadable module: \
-                      its auxiliary header is too short (an object file that is not linked has none)\n";
+                      its auxiliary header is too short, as in an object file that is not linked\n";
     for command in ["module", "imports", "relocations"] {
         folder.fails(&[command, "gas-main-32.o"], 1, not_module);
     }

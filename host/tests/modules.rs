@@ -129,7 +129,7 @@ fn a_refusal_is_told_in_words() {
         number: 13,
         item: 0,
     };
-    assert_eq!(r.to_string(), "refused 13 0: MODULE, the file is not a loadable module: its auxiliary header is too short (an object file that is not linked has none)");
+    assert_eq!(r.to_string(), "refused 13 0: MODULE, the file is not a loadable module: its auxiliary header is too short, as in an object file that is not linked");
     let r = Refusal {
         number: 17,
         item: 5,
