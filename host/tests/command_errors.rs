@@ -253,7 +253,8 @@ fn a_refused_file_is_named_with_its_number() {
     folder.copy("gas-main-32.o");
     folder.copy("exe-oldmagic-64");
     folder.write("empty", b"");
-    let not_module = "xcoff: gas-main-32.o: refused 13 0: MODULE, the file is not a loadable module: \
+    let not_module =
+        "xcoff: gas-main-32.o: refused 13 0: MODULE, the file is not a loadable module: \
                       its auxiliary header is too short, as in an object file that is not linked\n";
     for command in ["module", "imports", "relocations"] {
         folder.fails(&[command, "gas-main-32.o"], 1, not_module);
