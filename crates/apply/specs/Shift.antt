@@ -1,4 +1,4 @@
--- The shifts of a call as the code keeps them: numbers modulo 2^64.
+-- What a call adds for each symbol, in a build its displacements, in a move their differences, as the code keeps it: numbers modulo 2^64.
 use Prim.Native.Nat.{ℕ, zero, suc, _^_}
 use mathlib.Core.Path.{_≡_}
 use mathlib.Core.Bool.{Bool, true, false}

@@ -28,12 +28,13 @@ auxAt f base file =
       snbss = record { 0 = fieldIn (auxNumbers .snbss) base file };
     }
 
--- its section numbers, and its sizes and starts, are those of the headers
+-- MODULE 2, where not: its section numbers are those of the headers
 unfoldable pub numbersAgree : Parts → AuxHeader → Bool
 numbersAgree p a =
     eqb (a .sntext .0) (p .text .number .0) && eqb (a .sndata .0) (p .«data» .number .0)
     && eqb (a .snbss .0) (p .bss .number .0) && eqb (a .snloader .0) (p .loader .number .0)
 
+-- MODULE 2, where not: its sizes, and the starts of text and data, are those of the headers
 unfoldable pub sizesAgree : Parts → AuxHeader → Bool
 sizesAgree p a =
     (eqb (a .tsize) (p .text .size) && eqb (a .tstart .0) (p .text .address .0))

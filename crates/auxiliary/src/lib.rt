@@ -97,7 +97,7 @@ pub fn do_numbers_agree(p: Parts, a: AuxHeader) -> bool
 }
 
 // Whether an auxiliary header's size and start are those of the section.
-pub fn same_extent(size: u64, start: VirtualAddress, p: Part) -> bool
+fn same_extent(size: u64, start: VirtualAddress, p: Part) -> bool
     ensures { λ r. ⌜ r ≡ (eqb size (p .size) && eqb (start .0) (p .address .0)) ⌝ }
 {
     let address = p.address;

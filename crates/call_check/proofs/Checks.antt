@@ -13,7 +13,7 @@ use Rattle.refusal.specs.declared.Verdict.{Verdict}
 use Rattle.refusal.specs.declared.Verdict.the-variants.{Accepted, Refused}
 use Rattle.refusal.specs.Refusal.{isRefused}
 use Rattle.refusal.specs.Order.{_orElse_, refuseIf}
-use Rattle.refusal.proofs.Order.{told, told-accepted, go-on, stop, accepted-first, accepted-rest, accepted-test}
+use Rattle.refusal.proofs.Order.{told, told-accepted, go-on, stop, accepted-first, accepted-rest, accepted-test, accepted-equal}
 use Rattle.loadable.specs.declared.Loadable.{Loadable}
 use Rattle.loadable.specs.Valid.{Valid}
 use Rattle.history.specs.Plan.{Plan, listCheck, fitCheck, planCheck}
@@ -36,10 +36,6 @@ accepted-here {a = a} b e h k r = r ∙ sym (go-on a b (told e h k))
 or-assoc : (a b c : Verdict) → ((a orElse b) orElse c) ≡ (a orElse b orElse c)
 or-assoc Accepted b c = refl
 or-assoc (Refused x) b c = refl
-
--- numbers that a test found equal
-test-equal : (a b : ℕ) (x : Refusal) → refuseIf (not (eqb a b)) x ≡ Accepted → a ≡ b
-test-equal a b x e = eqb-true a b (not-false _ (accepted-test _ x e))
 
 module _ (file : List ℕ) (l : Loadable) where
   -- ---- ROOM
@@ -67,8 +63,8 @@ module _ (file : List ℕ) (l : Loadable) where
     room-lengths : roomCheck (relocatableOf file l) tl dl ≡ Accepted → (tl ≡ l .layout .parts .text .size) × (dl ≡ l .layout .image)
     room-lengths e =
         let h = sym (room-sizes v tl dl) ∙ e in (
-          test-equal tl _ (refusal.Room TextBuffer) (accepted-first _ _ h),
-          test-equal dl _ (refusal.Room DataBuffer) (accepted-rest (refuseIf (not (eqb tl (l .layout .parts .text .size))) (refusal.Room TextBuffer)) _ h),
+          accepted-equal tl _ (refusal.Room TextBuffer) (accepted-first _ _ h),
+          accepted-equal dl _ (refusal.Room DataBuffer) (accepted-rest (refuseIf (not (eqb tl (l .layout .parts .text .size))) (refusal.Room TextBuffer)) _ h),
         )
 
   -- ---- ROOM 2

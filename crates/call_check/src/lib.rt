@@ -18,7 +18,7 @@ use refusal::Verdict;
 // ---- which calls are accepted
 
 // ROOM 0 and 1: buffers of exactly the images' lengths.
-pub fn check_room(file: &[u8], l: Loadable, text: usize, data: usize) -> Verdict
+fn check_room(file: &[u8], l: Loadable, text: usize, data: usize) -> Verdict
     requires { ⌜ Valid (now file) l ⌝ }
     ensures { λ r. ⌜ r ≡ roomCheck (relocatableOf (now (file .entry)) l) text «data» ⌝ }
 {
@@ -60,7 +60,7 @@ pub fn check_build(
 }
 
 // ROOM 2 of a move: the from plan's list, then the to plan's.
-pub fn check_lists(
+fn check_lists(
     file: &[u8],
     l: Loadable,
     from: Addresses,
@@ -82,7 +82,7 @@ pub fn check_lists(
 }
 
 // PLAN of a move: the from plan, then the to plan.
-pub fn check_fits(
+fn check_fits(
     file: &[u8],
     l: Loadable,
     from: Addresses,

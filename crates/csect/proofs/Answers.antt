@@ -21,7 +21,7 @@ use Rattle.csect.specs.declared.CsectType.{CsectType}
 use Rattle.csect.specs.declared.CsectType.the-variants.{Er, Sd, Ld, Cm}
 use Rattle.csect.specs.declared.CsectAnswer.{CsectAnswer}
 use Rattle.csect.specs.declared.CsectAnswer.the-variants.{Found, Refused}
-use Rattle.csect.specs.Csect.{ownAfter, isSd, isContained, contained, csectAfter, csectIn, csectBehind, csectAt, reportOfCsect, csectReport}
+use Rattle.csect.specs.Csect.{ownAfter, isSd, isContained, contained, csectAfter, csectIn, csectAt, reportOfCsect, csectReport}
 use Rattle.csect.proofs.CsectType.{the-type}
 
 -- only an LD has a container
@@ -59,11 +59,11 @@ module _ (file : List ℕ) (t : Tables) (i : SymbolIndex) {a : CsectAnswer} {c :
 -- the answer for a file
 module _ (file : List ℕ) (i : SymbolIndex) where
   pub csect-refused : {o : Opened} {x : Refusal} → o ≡ openOf file → o .verdict ≡ verdict.Refused x → Refused x ≡ csectAt file i
-  unfolding csectAt csectBehind
+  unfolding csectAt
   csect-refused e k = rw (rw e at k)
 
   pub csect-opened : {o : Opened} → o ≡ openOf file → o .verdict ≡ verdict.Accepted → csectIn file (tablesOf (o .summary)) i ≡ csectAt file i
-  unfolding csectAt csectBehind
+  unfolding csectAt
   csect-opened e k = rw (e, rw e at k)
 
   pub csect-reported : {a : CsectAnswer} → a ≡ csectAt file i → (a ≡ csectAt file i) × (reportOfCsect a ≡ csectReport file i)

@@ -29,6 +29,7 @@ use Rattle.csect.specs.declared.TypeAnswer.the-variants.{Known, Unknown}
 use Rattle.csect.specs.declared.Csect.{Csect}
 use Rattle.csect.specs.declared.CsectAnswer.{CsectAnswer}
 use Rattle.csect.specs.declared.CsectAnswer.the-variants.{Found, Refused}
+use Rattle.refusal.specs.Order.{byVerdict}
 
 -- places in a csect auxiliary; the high half of the length and the auxiliary type are XCOFF64's
 abbrev pub lowField : Field
@@ -94,6 +95,7 @@ isMapped Sd m = isMappingClass m && not (eqb m 9 || eqb m 11)
 unfoldable pub csectOf : CsectType → CsectAux → Csect
 csectOf k a = record { kind = k; align = a .smtyp / 8; smclas = a .smclas; length = a .length }
 
+-- the csect entry a of the symbol s at index i, by its type: CSECT for another class, no auxiliary, a missing 251, a type or mapping class that is not allowed
 unfoldable pub typedCsect : Format → SymbolIndex → Symbol → CsectAux → TypeAnswer → CsectAnswer
 typedCsect f i s a Unknown = Refused (refusal.Csect i)
 typedCsect f i s a (Known k) =
@@ -127,6 +129,7 @@ isContained file t i c Cm = true
 isContained file t i c Ld =
     ltb (c .length) (i .0) && isSd (ownAfter file t (record { 0 = c .length }) (symbolIn file t (record { 0 = c .length })))
 
+-- CSECT of an LD whose container is not as it must be, with the LD's own index
 unfoldable pub contained : List ℕ → Tables → SymbolIndex → CsectAnswer → CsectAnswer
 contained file t i (Refused x) = Refused x
 contained file t i (Found c) = cond (isContained file t i c (c .kind)) (Found c) (Refused (refusal.Csect i))
@@ -138,12 +141,9 @@ csectAfter file t i a = contained file t i (ownAfter file t i a)
 unfoldable pub csectIn : List ℕ → Tables → SymbolIndex → CsectAnswer
 csectIn file t i = csectAfter file t i (symbolIn file t i)
 
-unfoldable pub csectBehind : List ℕ → Opened → SymbolIndex → Verdict → CsectAnswer
-csectBehind file o i (verdict.Refused x) = Refused x
-csectBehind file o i verdict.Accepted = csectIn file (tablesOf (o .summary)) i
-
+-- opening's refusals come first
 unfoldable pub csectAt : List ℕ → SymbolIndex → CsectAnswer
-csectAt file i = csectBehind file (openOf file) i (openOf file .verdict)
+csectAt file i = byVerdict (openOf file .verdict) (csectIn file (tablesOf (openOf file .summary)) i) Refused
 
 -- document 01's number (0: accepted), item and values of the answer
 abbrev pub typeNumber : CsectType → ℕ

@@ -48,7 +48,7 @@ pub fn displacements(at: Addresses, l: Loadable) -> [u64; 3]
 // ---- the answer
 
 // The sum of an address and a displacement, which drops at 2^32 or 2^64.
-pub fn add_address(f: Format, a: u64, d: u64) -> u64
+fn add_address(f: Format, a: u64, d: u64) -> u64
     ensures { λ r. ⌜ r ≡ (a + d) % addressLimit f ⌝ }
 {
     let sum = std::num::wrapping_add_u64(a, d);
@@ -59,7 +59,7 @@ pub fn add_address(f: Format, a: u64, d: u64) -> u64
 }
 
 // The entry point or the TOC anchor moved with its section. Section 0 means that there is none.
-pub fn move_anchor(l: Loadable, a: Anchor, at: Addresses) -> AnchorAddress
+fn move_anchor(l: Loadable, a: Anchor, at: Addresses) -> AnchorAddress
     ensures { λ r. ⌜ IsMoved l a at r ⌝ }
 {
     let m = l.layout;

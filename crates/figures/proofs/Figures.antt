@@ -1,26 +1,34 @@
 -- P1 to P11 of the definitions, one statement over their list. Fields, addresses, flags and types are hex, widths decimal. Assumes nothing.
-use Prim.Native.Nat.{_%_}
+use Prim.Native.Nat.{_%_, ℕ}
 use mathlib.Core.Path.{_≡_}
 use mathlib.Core.Bool.{true, false}
 use mathlib.Core.List.{List, [], _∷_, map}
 use lib.IntN.{pos, negℤ}
 use Rattle.update.specs.Update.{addField}
 use Rattle.update.proofs.Figures as update
-use Rattle.format.specs.declared.Format.the-variants.{Xcoff32, Xcoff64}
-use Rattle.format.specs.declared.KindAnswer.the-variants.{Allowed, NotAllowed}
+use Rattle.format.specs.declared.Format.the-variants.{Xcoff64}
+use Rattle.format.specs.declared.KindAnswer.the-variants.{Allowed}
 use Rattle.format.specs.declared.SectionKind.the-variants.{Dwarf}
 use Rattle.format.specs.Kind.{kindOf}
 use Rattle.format.specs.Range.{range}
-use Rattle.format.proofs.Figures as format
-use Rattle.refusal.specs.declared.Refusal.the-variants.{Name}
+use Rattle.section.specs.declared.SectionHeader.{SectionHeader}
+use Rattle.section.specs.declared.SectionAnswer.the-variants as section-answer
+use Rattle.section.specs.Section.{judgeSection}
+use Rattle.section.proofs.Figures as section
+use Rattle.refusal.specs.declared.Refusal.the-variants.{Name, Kind, Lrel}
 use Rattle.refusal.specs.declared.RangeAnswer.the-variants as range-answer
+use Rattle.refusal.specs.declared.Verdict.the-variants as verdict
 use Rattle.symbol.proofs.Figures as symbol
 use Rattle.csect.specs.declared.CsectAnswer.the-variants.{Found}
 use Rattle.csect.specs.declared.CsectType.the-variants.{Sd}
 use Rattle.csect.specs.Csect.{typedCsect, typeOf}
 use Rattle.csect.proofs.Figures as csect
-use Rattle.relocation.specs.Relocation.{subtracts, widthBits, isWidth}
+use Rattle.relocation.specs.Relocation.{subtracts, widthBits, isWidth, isThread, ownCheck}
 use Rattle.relocation.proofs.Figures as relocation
+use Rattle.format.specs.declared.Format.{Format}
+use Rattle.format.specs.declared.SectionNumber.{SectionNumber}
+use Rattle.parts.specs.declared.Parts.{Parts}
+use Rattle.relocation.specs.declared.RelocationEntry.{RelocationEntry}
 
 pub data Figure : Type 0 where
   P1 P2 P3 P4 P5 P6 P7 P8 P9 P10 P11 : Figure
@@ -34,8 +42,11 @@ Holds P4 = addField 4 0 (negℤ (pos 0x400)) (addField 4 0 (pos 0x1000) (0x00 �
 Holds P5 = addField 8 0 (pos 0xFFFFFFFFF0000000) (0x00 ∷ 0x00 ∷ 0x00 ∷ 0x01 ∷ 0x10 ∷ 0x00 ∷ 0x00 ∷ 0x00 ∷ []) ≡ 0x00 ∷ 0x00 ∷ 0x00 ∷ 0x01 ∷ 0x00 ∷ 0x00 ∷ 0x00 ∷ 0x00 ∷ []
 Holds P6 = addField 4 0 (pos 0x100000008) (0x00 ∷ 0x00 ∷ 0x00 ∷ 0x01 ∷ []) ≡ 0x00 ∷ 0x00 ∷ 0x00 ∷ 0x09 ∷ []
 Holds P7 = (subtracts 0x3F01 ≡ true) × (widthBits 0x3F01 ≡ 64) × (isWidth Xcoff64 (widthBits 0x3F01) ≡ true)
-Holds P8 = map (λ f. isWidth f (widthBits 0x0F00)) (Xcoff32 ∷ Xcoff64 ∷ []) ≡ false ∷ false ∷ []
-Holds P9 = map kindOf (0x00000060 ∷ 0x00020010 ∷ 0x00010020 ∷ []) ≡ NotAllowed ∷ Allowed Dwarf ∷ NotAllowed ∷ []
+Holds P8 =
+    (f : Format) (p : Parts) (nsyms i : ℕ) (e : RelocationEntry) → e .rtype ≡ 0x0F00 → isThread e ≡ false → ownCheck f p nsyms i e ≡ verdict.Refused (Lrel i)
+Holds P9 =
+    (f : Format) (len : ℕ) (h : SectionHeader) (n : SectionNumber)
+    → (h .flags ≡ 0x00000060 → judgeSection f len h n ≡ section-answer.Refused (Kind n)) × (kindOf 0x00020010 ≡ Allowed Dwarf) × (h .flags ≡ 0x00010020 → judgeSection f len h n ≡ section-answer.Refused (Kind n))
 Holds P10 =
     map symbol.named (4 ∷ 6 ∷ 3 ∷ 7 ∷ [])
     ≡ (range-answer.Found (range 4 2), 0x61 ∷ 0x62 ∷ []) ∷ (range-answer.Found (range 6 0), []) ∷ (range-answer.Refused (Name symbol.index), []) ∷ (range-answer.Refused (Name symbol.index), []) ∷ []
@@ -51,4 +62,4 @@ All (f ∷ fs) = Holds f × All fs
 pub bench-figures : All figures
 unfolding figures
 bench-figures =
-    (update.p1, (update.p2, (update.p3, (update.p4, (update.p5, (update.p6, (relocation.p7, (relocation.p8, (format.p9, (symbol.p10, (csect.p11, tt)))))))))))
+    (update.p1, (update.p2, (update.p3, (update.p4, (update.p5, (update.p6, (relocation.p7, (relocation.p8, (section.p9, (symbol.p10, (csect.p11, tt)))))))))))

@@ -1,5 +1,4 @@
--- Laws of layouts and parts of the file, for the crates above, and figures of document 01.
+-- Laws of layouts and parts of the file, for the crates above.
 
 pub mod Layouts
 pub mod Ranges
-pub mod Figures

@@ -8,45 +8,7 @@ use Rattle.format.specs.declared.SectionKind.the-variants.{Deleted, Pad,
 use Rattle.format.specs.declared.KindAnswer.{KindAnswer}
 use Rattle.format.specs.declared.KindAnswer.the-variants.{Allowed, NotAllowed}
 
--- a kind and the low 16 bits of its flags
-pub record KindRow : Type 0 where
-  pub flag : ℕ
-  pub kind : SectionKind
-
-abbrev pub kinds : List KindRow
-kinds =
-    record { flag = 0x0008; kind = Pad }
-    ∷ record { flag = 0x0010; kind = Dwarf }
-    ∷ record { flag = 0x0020; kind = Text }
-    ∷ record { flag = 0x0040; kind = Data }
-    ∷ record { flag = 0x0080; kind = Bss }
-    ∷ record { flag = 0x0100; kind = Except }
-    ∷ record { flag = 0x0200; kind = Info }
-    ∷ record { flag = 0x0400; kind = Tdata }
-    ∷ record { flag = 0x0800; kind = Tbss }
-    ∷ record { flag = 0x1000; kind = Loader }
-    ∷ record { flag = 0x2000; kind = Debug }
-    ∷ record { flag = 0x4000; kind = Typchk }
-    ∷ record { flag = 0x8000; kind = Ovrflo }
-    ∷ []
-
--- the kind that a list of kinds gives a number
-abbrev pub kindIn : ℕ → List KindRow → KindAnswer
-kindIn low [] = NotAllowed
-kindIn low (r ∷ rs) = cond (eqb low (r .flag)) (Allowed (r .kind)) (kindIn low rs)
-
-unfoldable pub lowKind : ℕ → KindAnswer
-lowKind low = kindIn low kinds
-
--- all ones: deleted. Otherwise the low 16 bits are one of the kinds, and the high 16 are 0, for dwarf not looked at
-unfoldable pub kindOf : ℕ → KindAnswer
-kindOf flags =
-    cond (eqb flags 0xFFFFFFFF) (Allowed Deleted)
-    (cond (eqb (flags % 65536) 0x0010) (Allowed Dwarf)
-    (cond (eqb (flags / 65536) 0) (lowKind (flags % 65536))
-    NotAllowed))
-
--- the low 16 bits of the flags of a kind; all ones for a deleted section
+-- the low 16 bits of the flags of each kind; a deleted section's are ones in all 32
 abbrev pub flagOf : SectionKind → ℕ
 flagOf Deleted = 0xFFFF
 flagOf Pad = 0x0008
@@ -62,6 +24,26 @@ flagOf Loader = 0x1000
 flagOf Debug = 0x2000
 flagOf Typchk = 0x4000
 flagOf Ovrflo = 0x8000
+
+-- the allowed kinds
+abbrev pub kinds : List SectionKind
+kinds = Pad ∷ Dwarf ∷ Text ∷ Data ∷ Bss ∷ Except ∷ Info ∷ Tdata ∷ Tbss ∷ Loader ∷ Debug ∷ Typchk ∷ Ovrflo ∷ []
+
+-- the kind among these that has a flag
+abbrev pub kindIn : ℕ → List SectionKind → KindAnswer
+kindIn low [] = NotAllowed
+kindIn low (k ∷ ks) = cond (eqb low (flagOf k)) (Allowed k) (kindIn low ks)
+
+unfoldable pub lowKind : ℕ → KindAnswer
+lowKind low = kindIn low kinds
+
+-- all ones: deleted. Otherwise the low 16 bits are one of the kinds, and the high 16 are 0, for dwarf not looked at
+unfoldable pub kindOf : ℕ → KindAnswer
+kindOf flags =
+    cond (eqb flags 0xFFFFFFFF) (Allowed Deleted)
+    (cond (eqb (flags % 65536) 0x0010) (Allowed Dwarf)
+    (cond (eqb (flags / 65536) 0) (lowKind (flags % 65536))
+    NotAllowed))
 
 -- the kinds that have raw data where `s_scnptr` is not 0: not bss, tbss and ovrflo. A deleted section is not examined, so it has none
 abbrev pub hasRawKind : SectionKind → Bool

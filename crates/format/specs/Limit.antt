@@ -13,6 +13,10 @@ sectionLimit = 32
 abbrev pub loaderSymbolLimit : ℕ
 loaderSymbolLimit = 4096
 
+-- LIMIT 2: addresses in a plan sheet's list
+abbrev pub sheetListLimit : ℕ
+sheetListLimit = 4096
+
 -- LIMIT 3: relocation entries
 abbrev pub relocationLimit : ℕ
 relocationLimit = 4096

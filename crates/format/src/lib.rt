@@ -16,6 +16,8 @@ pub const SECTION_LIMIT: u64 = 32;
 
 pub const LOADER_SYMBOL_LIMIT: u64 = 4096;
 
+pub const SHEET_LIST_LIMIT: u64 = 4096;
+
 pub const RELOCATION_LIMIT: u64 = 4096;
 
 pub const DATA_IMAGE_LIMIT: u64 = 16777216;

@@ -29,6 +29,7 @@ unfoldable pub blankSummary : Summary
 blankSummary =
     record { format = Xcoff32; count = 0; sections = blankSections; symbols = tableAt 0 0 0 0; opthdr = 0; flags = 0 }
 
+-- the summary of an accepted file with the section records t
 unfoldable pub summaryWith : List ℕ → FileHeader → List Section → Summary
 summaryWith file h t =
     record {
@@ -54,11 +55,12 @@ openAs f file =
     (headerCheck f file orElse sectionsCheck file (headerAt f file) orElse symbolsCheck file (headerAt f file))
     (summaryWith file (headerAt f file) (sectionsOf file (headerAt f file) (headerAt f file .nscns)))
 
+-- MAGIC, then by the format
 unfoldable pub openBy : List ℕ → MagicAnswer → Opened
 openBy file Unknown = refusedBy (Refused Magic)
 openBy file (Known f) = openAs f file
 
--- LIMIT 0, SHORT, MAGIC, then by the format
+-- LIMIT 0, SHORT, then by the magic number
 unfoldable pub openOf : List ℕ → Opened
 openOf file =
     cond (ltb fileLimit (length file)) (refusedBy (Refused (Limit File)))

@@ -102,6 +102,7 @@ abbrev pub tableAt : ℕ → ℕ → ℕ → ℕ → SymbolTable
 tableAt start count strings size =
     record { start = record { 0 = start }; count = count; strings = range strings size }
 
+-- where symbols and strings lie
 unfoldable pub symbolTable : List ℕ → FileHeader → SymbolTable
 symbolTable file h =
     cond (eqb (h .nsyms) 0) (tableAt 0 0 0 0)

@@ -15,18 +15,13 @@ use Rattle.relocation.specs.Relocation.{bytesWide}
 use Rattle.clash.specs.Overlap.{Compatible}
 use Rattle.clash.specs.Overlap.Compatible.{otherSection, same, before, after}
 use Rattle.history.specs.declared.Relocation.{Relocation}
-use Rattle.history.specs.Images.{Images, images, Shifts, signed, addAt, applyEntry, applyAll, lengthOf, All, Inside, Pairwise}
-
--- the text image (true) or the data image
-abbrev pub imageOf : Bool → Images → List ℕ
-imageOf true x = x .text
-imageOf false x = x .dat
+use Rattle.history.specs.Images.{Images, images, Shifts, signed, addAt, applyEntry, applyAll, lengthOf, All, Inside, Pairwise, imageOf, InField}
 
 -- ---- one field changed
 
 -- a field added to keeps both lengths
 addAt-length : (t u : Bool) (w off : ℕ) (z : ℤ) (x : Images) → lengthOf u (addAt t w off z x) ≡ lengthOf u x
-unfolding addAt lengthOf
+unfolding addAt
 addAt-length true true w off z x = length-add w off z (x .text)
 addAt-length true false w off z x = refl
 addAt-length false true w off z x = refl
@@ -34,13 +29,13 @@ addAt-length false false w off z x = length-add w off z (x .dat)
 
 -- a then b is their sum
 addAt-add : (t : Bool) (w off : ℕ) (a b : ℤ) (x : Images) → off + w ≤ lengthOf t x → addAt t w off b (addAt t w off a x) ≡ addAt t w off (a +ℤ b) x
-unfolding addAt lengthOf
+unfolding addAt
 addAt-add true w off a b x h = ap (λ (l : List ℕ). images l (x .dat)) (add-add w off a b (x .text) h)
 addAt-add false w off a b x h = ap (λ (l : List ℕ). images (x .text) l) (add-add w off a b (x .dat) h)
 
 -- 0 added changes nothing
 addAt-zero : (t : Bool) (w off : ℕ) (x : Images) → Bytes (imageOf t x) → off + w ≤ lengthOf t x → addAt t w off (pos 0) x ≡ x
-unfolding addAt lengthOf
+unfolding addAt
 addAt-zero true w off x b h = ap (λ (l : List ℕ). images l (x .dat)) (add-zero w off (x .text) b h)
 addAt-zero false w off x b h = ap (λ (l : List ℕ). images (x .text) l) (add-zero w off (x .dat) b h)
 
@@ -177,10 +172,6 @@ applyAll-zero [] x b c i = refl
 applyAll-zero (e ∷ es) x b c i = ap (λ (y : Images). applyAll es (λ i. pos 0) y) (entry-zero e x b c (i .0)) ∙ applyAll-zero es x b c (i .1)
 
 -- ---- bytes outside the fields
-
--- byte k of the text image (t true) or the data image is in an entry's field
-abbrev pub InField : Bool → ℕ → Relocation → Type 0
-InField t k e = (e .place .text ≡ t) × (e .place .offset ≤ k) × (k < e .place .offset + bytesWide (e .place .wide))
 
 -- an entry applied changes no byte outside its field
 entry-outside : (t : Bool) (k : ℕ) (e : Relocation) (s : Shifts) (x : Images) → (InField t k e → ⊥)

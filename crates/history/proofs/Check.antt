@@ -5,22 +5,17 @@ use mathlib.Core.List.{List, [], _∷_}
 use Prim.Native.Nat.{ℕ}
 use lib.Dec.{eqb}
 use lib.ListN.{length}
-use borrow.Author.Tests.{eqb-true, not-false}
 use Rattle.refusal.specs.declared.RoomItem.the-variants.{TextBuffer, DataBuffer}
 use Rattle.refusal.specs.declared.Refusal.{Refusal}
 use Rattle.refusal.specs.declared.Refusal.the-variants as refusal
 use Rattle.refusal.specs.declared.Verdict.{Verdict}
 use Rattle.refusal.specs.declared.Verdict.the-variants.{Accepted, Refused}
-use Rattle.refusal.specs.Order.{_orElse_, refuseIf}
-use Rattle.refusal.proofs.Order.{accepted-first, accepted-rest, accepted-test}
+use Rattle.refusal.specs.Order.{_orElse_, refuseIf, ifAccepted}
+use Rattle.refusal.proofs.Order.{accepted-first, accepted-rest, accepted-equal}
 use Rattle.history.specs.Images.{Images, lengthOf, All, Inside}
 use Rattle.history.specs.Plan.{Relocatable, Plan, Sound, listCheck, fitCheck, planCheck, displacements, differences, builtImages}
-use Rattle.history.specs.Call.{Call, build, roomCheck, callCheck, accepted, ifAccepted, effect, run}
+use Rattle.history.specs.Call.{Call, build, roomCheck, callCheck, accepted, effect, run, Accepts}
 use Rattle.history.proofs.Apply.{applyAll-length, inside-lengths}
-
--- a call is accepted on buffers of the lengths of x
-abbrev pub Accepts : Relocatable → Images → Call → Type 0
-Accepts m x c = callCheck m (length (x .text)) (length (x .dat)) c ≡ Accepted
 
 -- ---- the parts of an accepted move
 
@@ -76,16 +71,12 @@ unfolding callCheck
 room-accepted m tl dl (build p) e = accepted-rest (planCheck m p) _ e
 room-accepted m tl dl (Call.move p q) e = move-parts m tl dl p q e .room
 
--- numbers that a test found equal
-test-equal : (a b : ℕ) (x : Refusal) → refuseIf (not (eqb a b)) x ≡ Accepted → a ≡ b
-test-equal a b x e = eqb-true a b (not-false _ (accepted-test _ x e))
-
 -- buffers that pass ROOM 0 and 1 have the raw images' lengths
 room-lengths : (m : Relocatable) (x : Images) → roomCheck m (length (x .text)) (length (x .dat)) ≡ Accepted → (u : Bool) → lengthOf u x ≡ lengthOf u (m .raw)
-unfolding roomCheck lengthOf
-room-lengths m x e true = test-equal _ _ (refusal.Room TextBuffer) (accepted-first _ _ e)
+unfolding roomCheck
+room-lengths m x e true = accepted-equal _ _ (refusal.Room TextBuffer) (accepted-first _ _ e)
 room-lengths m x e false =
-    test-equal _ _ (refusal.Room DataBuffer)
+    accepted-equal _ _ (refusal.Room DataBuffer)
     (accepted-rest (refuseIf (not (eqb (length (x .text)) (length (m .raw .text)))) (refusal.Room TextBuffer)) _ e)
 
 -- the buffers of an accepted call have the raw images' lengths
@@ -125,14 +116,7 @@ accepted-length m (Call.move p q) x e u = applyAll-length u (m .entries) (differ
 pub effect-length : (m : Relocatable) (c : Call) (x : Images) (u : Bool) → lengthOf u (effect m c x) ≡ lengthOf u x
 effect-length m c x u = effect-either (λ y. lengthOf u y ≡ lengthOf u x) m c x (λ e. accepted-length m c x e u) (λ r e. refl)
 
--- every list of calls keeps both lengths
-pub run-lengths : (m : Relocatable) (cs : List Call) (x : Images) (u : Bool) → lengthOf u (run m cs x) ≡ lengthOf u x
-unfolding run
-run-lengths m [] x u = refl
-run-lengths m (c ∷ cs) x u = run-lengths m cs (effect m c x) u ∙ effect-length m c x u
-
 -- so a verdict on what a call leaves is the verdict before it
 pub verdict-after : (m : Relocatable) (c d : Call) (x : Images)
     → callCheck m (length (effect m c x .text)) (length (effect m c x .dat)) d ≡ callCheck m (length (x .text)) (length (x .dat)) d
-unfolding lengthOf
 verdict-after m c d x = ap₂ (λ (tl dl : ℕ). callCheck m tl dl d) (effect-length m c x true) (effect-length m c x false)

@@ -12,13 +12,13 @@ use Rattle.refusal.proofs.Order.{not-accepted}
 use Rattle.update.specs.Update.{Bytes}
 use Rattle.history.specs.declared.Followed.{Followed}
 use Rattle.history.specs.declared.Followed.the-variants as followed
-use Rattle.history.specs.Images.{Images, Shifts, applyAll, All}
+use Rattle.history.specs.Images.{Images, Shifts, applyAll, All, imageOf, InField}
 use Rattle.history.specs.Plan.{Relocatable, Plan, Sound, SamePlan, SameAddress, followedBy, displacementOf, displacements, differences, builtImages}
-use Rattle.history.specs.Call.{Call, build, callCheck, accepted, effect, run}
+use Rattle.history.specs.Call.{Call, build, callCheck, accepted, effect, run, Accepts}
 use Rattle.history.specs.Book.{Book, firstBook, entered, enter, enterAll, bookAfter, imagesBy, bookImages, Chain}
 use Rattle.history.specs.Book.Chain.{ended, moved, passed}
-use Rattle.history.proofs.Apply.{imageOf, InField, applyAll-add, applyAll-zero, applyAll-outside}
-use Rattle.history.proofs.Check.{Accepts, move-back-accepted, build-reached-accepted, accepted-inside, effect-either, effect-accepted, verdict-after}
+use Rattle.history.proofs.Apply.{applyAll-add, applyAll-zero, applyAll-outside}
+use Rattle.history.proofs.Check.{move-back-accepted, build-reached-accepted, accepted-inside, effect-either, effect-accepted, verdict-after}
 use Rattle.history.proofs.Demand3.{demand-3}
 
 -- demand 1: "A refusal changes no byte of any buffer I lend."

@@ -9,11 +9,12 @@ use Rattle.refusal.specs.declared.Verdict.{Verdict}
 use Rattle.refusal.specs.declared.Verdict.the-variants.{Accepted, Refused}
 use Rattle.history.specs.Images.{Images, Shifts, applyAll, lengthOf, All, Inside}
 use Rattle.history.specs.Plan.{Relocatable, Sound, displacements, differences, builtImages}
-use Rattle.history.specs.Call.{Call, build, callCheck, accepted, ifAccepted, effect, run}
+use Rattle.history.specs.Call.{Call, build, callCheck, accepted, effect, run}
 use Rattle.history.specs.Book.{Book, firstBook, entered, enter, enterAll, bookAfter, imagesBy, bookImages}
 use Rattle.history.proofs.Machine as machine
 use Rattle.history.proofs.Apply.{applyAll-add, applyAll-length, inside-lengths}
 use Rattle.history.proofs.Check.{accepted-inside, effect-length}
+use Rattle.refusal.specs.Order.{ifAccepted}
 
 -- ---- a module as a machine of builds and moves
 
@@ -64,7 +65,6 @@ module _ (m : Relocatable) (sound : Sound m) where
 
   -- a call keeps what a verdict reads
   keeps-view : machine.KeepsView machineOf
-  unfolding lengthOf
   keeps-view c x =
       rw (← effect-machine c x) (ap₂ (λ (a b : ℕ). (a, b)) (effect-length m c x true) (effect-length m c x false))
 

@@ -4,7 +4,7 @@ use mathlib.Core.Bool.{Bool, true, false}
 use mathlib.Core.List.{List, [], _∷_}
 use Rattle.refusal.specs.declared.Verdict.{Verdict}
 use Rattle.refusal.specs.declared.Verdict.the-variants.{Accepted, Refused}
-use Rattle.history.specs.Call.{ifAccepted}
+use Rattle.refusal.specs.Order.{ifAccepted}
 
 -- what an accepted call does, by shifts: a build applies them to the raw bytes, a move to the buffers as they are
 pub data Change (S : Type 0) : Type 0 where

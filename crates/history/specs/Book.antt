@@ -10,7 +10,8 @@ use Rattle.refusal.specs.declared.Verdict.the-variants.{Accepted, Refused}
 use Rattle.history.specs.declared.Relocation.{Relocation}
 use Rattle.history.specs.Images.{Images, Shifts, applyAll}
 use Rattle.history.specs.Plan.{Relocatable, Plan, SamePlan, displacements, differences}
-use Rattle.history.specs.Call.{Call, build, callCheck, ifAccepted}
+use Rattle.history.specs.Call.{Call, build, callCheck}
+use Rattle.refusal.specs.Order.{ifAccepted}
 
 -- base and shifts are document 01's own terms; begun: a call was accepted
 pub record Book : Type 0 where

@@ -8,13 +8,15 @@ use Rattle.refusal.specs.declared.RoomItem.the-variants.{TextBuffer, DataBuffer
 use Rattle.refusal.specs.declared.Refusal.the-variants as refusal
 use Rattle.refusal.specs.declared.Verdict.{Verdict}
 use Rattle.refusal.specs.declared.Verdict.the-variants.{Accepted, Refused}
-use Rattle.refusal.specs.Order.{_orElse_, refuseIf}
+use Rattle.refusal.specs.Order.{_orElse_, refuseIf, byVerdict, ifAccepted}
 use Rattle.history.specs.declared.CallAnswer.{CallAnswer}
 use Rattle.history.specs.declared.CallAnswer.the-variants as answer
 use Rattle.history.specs.declared.Reached.{Reached}
 use Rattle.history.specs.Images.{Images, applyAll}
 use Rattle.history.specs.Plan.{Relocatable, Plan, listCheck, fitCheck, planCheck, builtImages, differences, reachedBy}
+use mathlib.Core.Path.{_≡_}
 
+-- a build for a plan, or a move from a plan to another
 pub data Call : Type 0 where
   build : Plan → Call
   move : Plan → Plan → Call
@@ -35,27 +37,22 @@ callCheck m tl dl (build p) = planCheck m p orElse roomCheck m tl dl
 callCheck m tl dl (Call.move p q) =
     m .verdict orElse listCheck m p orElse listCheck m q orElse fitCheck m p orElse fitCheck m q orElse roomCheck m tl dl
 
+-- a call is accepted on buffers of the lengths of x
+abbrev pub Accepts : Relocatable → Images → Call → Type 0
+Accepts m x c = callCheck m (length (x .text)) (length (x .dat)) c ≡ Accepted
+
 -- what an accepted call leaves in the buffers; a move takes them as they are
 unfoldable pub accepted : Relocatable → Call → Images → Images
 accepted m (build p) x = builtImages m p
 accepted m (Call.move p q) x = applyAll (m .entries) (differences m p q) x
 
--- by a verdict
-abbrev pub ifAccepted : {A : Type 0} → Verdict → A → A → A
-ifAccepted Accepted a b = a
-ifAccepted (Refused x) a b = b
-
 -- what a call leaves in the buffers: a refusal changes nothing
 unfoldable pub effect : Relocatable → Call → Images → Images
 effect m c x = ifAccepted (callCheck m (length (x .text)) (length (x .dat)) c) (accepted m c x) x
 
-abbrev pub answerBy : Verdict → Reached → CallAnswer
-answerBy Accepted r = answer.Done r
-answerBy (Refused x) r = answer.Refused x
-
 -- what a call answers
 unfoldable pub answerOf : Relocatable → ℕ → ℕ → Call → CallAnswer
-answerOf m tl dl c = answerBy (callCheck m tl dl c) (reachedBy m (planReached c))
+answerOf m tl dl c = byVerdict (callCheck m tl dl c) (answer.Done (reachedBy m (planReached c))) answer.Refused
 
 -- each call on what the last one left
 unfoldable pub run : Relocatable → List Call → Images → Images

@@ -1,7 +1,7 @@
 -- The two images of a module, and relocation entries applied to them.
 use mathlib.Core.Bool.{Bool, true, false}
 use mathlib.Core.List.{List, [], _∷_}
-use Prim.Native.Nat.{ℕ, _+_, _≤_}
+use Prim.Native.Nat.{ℕ, _+_, _≤_, _<_}
 use lib.ListN.{length}
 use lib.IntN.{ℤ, negℤ}
 use Rattle.update.specs.Update.{addField}
@@ -9,7 +9,9 @@ use Rattle.relocation.specs.declared.FieldPlace.{FieldPlace}
 use Rattle.relocation.specs.Relocation.{bytesWide}
 use Rattle.clash.specs.Overlap.{Compatible}
 use Rattle.history.specs.declared.Relocation.{Relocation}
+use mathlib.Core.Path.{_≡_}
 
+-- what the two buffers hold: the text image and the data image
 pub record Images : Type 0 where
   pub text : List ℕ
   pub dat : List ℕ
@@ -41,9 +43,13 @@ applyAll (e ∷ es) s x = applyAll es s (applyEntry e s x)
 
 -- ---- what holds of the entries of an accepted module
 
-unfoldable pub lengthOf : Bool → Images → ℕ
-lengthOf true x = length (x .text)
-lengthOf false x = length (x .dat)
+-- the text image (true) or the data image
+abbrev pub imageOf : Bool → Images → List ℕ
+imageOf true x = x .text
+imageOf false x = x .dat
+
+abbrev pub lengthOf : Bool → Images → ℕ
+lengthOf t x = length (imageOf t x)
 
 abbrev pub All : (Relocation → Type 0) → List Relocation → Type 0
 All P [] = Unit {0}
@@ -56,3 +62,7 @@ Inside x e = e .place .offset + bytesWide (e .place .wide) ≤ lengthOf (e .plac
 abbrev pub Pairwise : List Relocation → Type 0
 Pairwise [] = Unit {0}
 Pairwise (e ∷ es) = All (λ f. Compatible (e .place) (f .place)) es × Pairwise es
+
+-- byte k of the text image (t true) or the data image is in an entry's field
+abbrev pub InField : Bool → ℕ → Relocation → Type 0
+InField t k e = (e .place .text ≡ t) × (e .place .offset ≤ k) × (k < e .place .offset + bytesWide (e .place .wide))

@@ -7,17 +7,18 @@ use native.Mathlib.Nat.{add-sub-cancel-left}
 use native.Mathlib.Numerals.{add-one}
 use native.Mathlib.Omega.{arith}
 use lib.Dec.{ltb}
-use lib.ListN.{length, take, drop, length-drop}
-use lib.Seq.{drop-drop, length-take-le, take-all}
+use lib.ListN.{length, take, drop}
+use lib.Seq.{drop-drop, take-all}
 use borrow.Author.Tests.{ltb-true, not-false}
 use Rattle.word.specs.Zero.{firstZero, zerosIn}
 use Rattle.word.proofs.Zero.{zero-counted, zeros-few}
 use Rattle.format.specs.declared.FileRange.{FileRange}
 use Rattle.format.specs.Limit.{fileLimit}
 use Rattle.format.specs.Range.{range, bytesOf}
+use Rattle.refusal.specs.declared.RangeAnswer.the-variants as range
 use Rattle.refusal.specs.declared.Verdict.{Verdict}
 use Rattle.refusal.specs.declared.Verdict.the-variants as verdict
-use Rattle.refusal.specs.Part.{Within, rangeBy}
+use Rattle.refusal.specs.Part.{Within}
 use Rattle.refusal.proofs.Order.{accepted-test}
 use Rattle.loader_header.specs.declared.LoaderTables.{LoaderTables}
 use Rattle.loadable.specs.declared.Loadable.{Loadable}
@@ -29,6 +30,8 @@ use Rattle.loadable.proofs.Accepted.{loadable-valid}
 use Rattle.import_id.specs.declared.ImportString.{ImportString}
 use Rattle.import_id.specs.declared.ImportString.the-variants.{Path, Base, Member}
 use Rattle.import_id.specs.Import.{idCheck, stringStart, stringOf, placeOf, importIn, importAt}
+use Rattle.refusal.specs.Order.{byVerdict}
+use Rattle.format.proofs.Ranges.{length-part}
 
 -- what is left behind the first j strings: a zero less for each
 pub record Left (s : List ℕ) (j : ℕ) : Type 0 where
@@ -83,9 +86,6 @@ module _ (s : List ℕ) (j : ℕ) {at r : ℕ} (a : at ≡ stringStart s j) (e :
 pub part-is : (file : List ℕ) (r : FileRange) → take (r .start .0 + r .length - r .start .0) (drop (r .start .0) file) ≡ bytesOf file r
 part-is file r = rw (add-sub-cancel-left (r .start .0) (r .length)) refl
 
-pub length-part : (file : List ℕ) (r : FileRange) → r .start .0 + r .length ≤ length file → length (bytesOf file r) ≡ r .length
-length-part file r h = length-take-le (r .length) (drop (r .start .0) file) (rw length-drop (omega arith))
-
 -- a string that has its zero lies in the file
 pub string-inside : (file : List ℕ) (ids : FileRange) (j : ℕ) → ids .start .0 + ids .length ≤ length file → j < zerosIn (bytesOf file ids) → stringOf file ids j .start .0 + stringOf file ids j .length ≤ length file
 unfolding stringOf
@@ -126,7 +126,7 @@ strings-few file l h =
     let ids = h .loader .tables .ids in
     omega (arith, zeros-few (bytesOf file (l .tables .ids)), length-part file (l .tables .ids) ids, ids, h .sections .small)
 
-by-id : (file : List ℕ) (l : Loadable) (n : ℕ) (w : ImportString) (v : Verdict) → idCheck (l .tables) n ≡ v → Valid file l → Within (length file) (rangeBy v (stringOf file (l .tables .ids) (3 * n + placeOf w)))
+by-id : (file : List ℕ) (l : Loadable) (n : ℕ) (w : ImportString) (v : Verdict) → idCheck (l .tables) n ≡ v → Valid file l → Within (length file) (byVerdict v (range.Found (stringOf file (l .tables .ids) (3 * n + placeOf w))) range.Refused)
 by-id file l n w (verdict.Refused x) e h = tt
 by-id file l n w verdict.Accepted e h =
     string-inside file (l .tables .ids) (3 * n + placeOf w) (h .loader .tables .ids) (strings-there file l n (placeOf w) h (id-known (l .tables) n e) (place-few w))

@@ -10,10 +10,9 @@ use Rattle.format.specs.Range.{range, bytesOf}
 use Rattle.refusal.specs.declared.Refusal.the-variants.{Index}
 use Rattle.refusal.specs.declared.IndexItem.the-variants.{NoImportId}
 use Rattle.refusal.specs.declared.RangeAnswer.{RangeAnswer}
-use Rattle.refusal.specs.declared.RangeAnswer.the-variants.{Refused}
+use Rattle.refusal.specs.declared.RangeAnswer.the-variants.{Refused, Found}
 use Rattle.refusal.specs.declared.Verdict.{Verdict}
-use Rattle.refusal.specs.Order.{refuseIf}
-use Rattle.refusal.specs.Part.{rangeBy}
+use Rattle.refusal.specs.Order.{refuseIf, byVerdict}
 use Rattle.loader_header.specs.declared.LoaderTables.{LoaderTables}
 use Rattle.loadable.specs.declared.LoadableAnswer.{LoadableAnswer}
 use Rattle.loadable.specs.declared.LoadableAnswer.the-variants as loadable
@@ -21,7 +20,7 @@ use Rattle.loadable.specs.Loadable.{loadableAt}
 use Rattle.import_id.specs.declared.ImportString.{ImportString}
 use Rattle.import_id.specs.declared.ImportString.the-variants.{Path, Base, Member}
 
--- ids count from 0
+-- INDEX: ids count from 0
 unfoldable pub idCheck : LoaderTables → ℕ → Verdict
 idCheck t n = refuseIf (not (ltb n (t .nimpid))) (Index (NoImportId n))
 
@@ -45,7 +44,7 @@ placeOf Member = 2
 -- id n has strings 3n to 3n + 2
 unfoldable pub importIn : List ℕ → LoadableAnswer → ℕ → ImportString → RangeAnswer
 importIn file (loadable.Refused x) n w = Refused x
-importIn file (loadable.Found l) n w = rangeBy (idCheck (l .tables) n) (stringOf file (l .tables .ids) (3 * n + placeOf w))
+importIn file (loadable.Found l) n w = byVerdict (idCheck (l .tables) n) (Found (stringOf file (l .tables .ids) (3 * n + placeOf w))) Refused
 
 unfoldable pub importAt : List ℕ → ℕ → ImportString → RangeAnswer
 importAt file n w = importIn file (loadableAt file) n w

@@ -22,7 +22,7 @@ pub enum ImportString {
 }
 
 // Where string `j` of zero-ended strings starts.
-pub fn string_start(s: &[u8], j: u64) -> usize
+fn string_start(s: &[u8], j: u64) -> usize
     requires { ⌜ (j ≤ zerosIn (now s)) × (length (now s) ≤ fileLimit) ⌝ }
     ensures { λ r. ⌜ r ≡ stringStart (now (s .entry)) j ⌝ }
 {
@@ -36,7 +36,7 @@ pub fn string_start(s: &[u8], j: u64) -> usize
 }
 
 // String `j` of the import id table.
-pub fn string_of(file: &[u8], ids: FileRange, j: u64) -> FileRange
+fn string_of(file: &[u8], ids: FileRange, j: u64) -> FileRange
     requires { ⌜ (ids .start .0 + ids .length ≤ length (now file)) × (j < zerosIn (bytesOf (now file) ids)) × (length (now file) ≤ fileLimit) ⌝ }
     ensures { λ r. ⌜ r ≡ stringOf (now (file .entry)) ids j ⌝ }
 {
@@ -51,7 +51,7 @@ pub fn string_of(file: &[u8], ids: FileRange, j: u64) -> FileRange
     }
 }
 
-pub fn place_of(w: ImportString) -> u64
+fn place_of(w: ImportString) -> u64
     ensures value { λ r. ⌜ r ≡ placeOf w ⌝ }
     ensures bound { λ r. ⌜ r < 3 ⌝ }
 {

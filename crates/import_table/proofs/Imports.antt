@@ -21,12 +21,13 @@ use Rattle.loadable.proofs.Accepted.{loadable-valid}
 use Rattle.import_id.specs.declared.ImportString.{ImportString}
 use Rattle.import_id.specs.declared.ImportString.the-variants.{Path, Base, Member}
 use Rattle.import_id.specs.Import.{idCheck, stringStart, stringOf, placeOf, importIn, importAt}
-use Rattle.import_id.proofs.Strings.{next-in, left-all, length-part, strings-few}
+use Rattle.import_id.proofs.Strings.{next-in, left-all, strings-few}
 use Rattle.rows.specs.Rows.{rowsOf}
 use Rattle.rows.proofs.Laws.{rows-same, rows-three}
 use Rattle.loader_tables.specs.Table.{tableCheck}
 use Rattle.loader_tables.proofs.Tables.{Needs, needs-by}
 use Rattle.import_table.specs.Imports.{importRow, imports, stringRow, StringsThere}
+use Rattle.format.proofs.Ranges.{length-part}
 
 pub string-even : (file : List ℕ) (ids : FileRange) (j : ℕ) → length (stringRow file ids j) ≡ 2
 unfolding stringRow

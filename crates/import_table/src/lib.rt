@@ -5,10 +5,11 @@ ghost use lib.ListN.{length, drop};
 ghost use Rattle.word.specs.Zero.{firstZero};
 ghost use Rattle.format.specs.Range.{bytesOf};
 ghost use Rattle.loadable.specs.Loadable.{loadableAt};
-ghost use Rattle.sheet.specs.Sheet.{leaves, reportOfVerdict};
 ghost use Rattle.rows.specs.Rows.{rowsOf};
 ghost use Rattle.loader_tables.specs.Table.{checkBy, tableCheck, rowsBy, tableAfter};
 ghost use Rattle.import_table.specs.Imports.{stringRow, StringsThere, imports};
+ghost use Rattle.refusal.specs.Order.{ifAccepted};
+ghost use Rattle.refusal.specs.Refusal.{reportOfVerdict};
 use format::FileRange;
 use loadable::Loadable;
 use loadable::LoadableAnswer;
@@ -47,7 +48,7 @@ fn write_strings(file: &[u8], ids: FileRange, count: u64, out: &mut [u64])
 fn list_imports(file: &[u8], l: Loadable, out: &mut [u64]) -> Verdict
     requires { ⌜ loadableAt (now file) ≡ LoadableAnswer.Found l ⌝ }
     ensures answer { λ r. ⌜ r ≡ checkBy imports (LoadableAnswer.Found l) (length (now (out .entry))) ⌝ }
-    ensures rows { λ r. ⌜ now (out .exit) ≡ leaves r (rowsBy imports (now (file .entry)) (LoadableAnswer.Found l)) (now (out .entry)) ⌝ }
+    ensures rows { λ r. ⌜ now (out .exit) ≡ ifAccepted r (rowsBy imports (now (file .entry)) (LoadableAnswer.Found l)) (now (out .entry)) ⌝ }
 {
     let t = l.tables;
     let v = rows::check_room(out.len() as u64, 6 * t.nimpid);

@@ -13,7 +13,7 @@ use Rattle.refusal.specs.declared.Refusal.the-variants.{Overlap}
 use Rattle.refusal.specs.declared.Verdict.{Verdict}
 use Rattle.refusal.specs.declared.Verdict.the-variants as verdict
 use Rattle.refusal.specs.Order.{refuseIf}
-use Rattle.refusal.proofs.Order.{accepts, accepted-first, accepted-rest, accepted-test, first-all}
+use Rattle.refusal.proofs.Order.{accepts, accepted-first, accepted-rest, accepted-test, first-all, by-verdict}
 use Rattle.parts.specs.declared.Part.{Part}
 use Rattle.parts.specs.declared.Parts.{Parts}
 use Rattle.module.specs.declared.Module.{Module}
@@ -37,7 +37,7 @@ use Rattle.loadable.specs.declared.Loadable.{Loadable}
 use Rattle.loadable.specs.declared.LoadableAnswer.{LoadableAnswer}
 use Rattle.loadable.specs.declared.LoadableAnswer.the-variants.{Found, Refused}
 use Rattle.loadable.specs.Entries.{entryCheck, entriesCheck, FirstRefused, EntriesReady}
-use Rattle.loadable.specs.Loadable.{loadableBy, loadableWith, loadableIn, loadableAt}
+use Rattle.loadable.specs.Loadable.{loadableWith, loadableIn, loadableAt}
 use Rattle.loadable.specs.Valid.{Valid}
 
 -- ---- what is known before the entries are judged
@@ -119,15 +119,11 @@ abbrev Answered : List ℕ → LoadableAnswer → Type 0
 Answered file (Found l) = Valid file l
 Answered file (Refused x) = Unit {0}
 
-by-verdict : (file : List ℕ) (v : Verdict) (l : Loadable) → (v ≡ verdict.Accepted → Valid file l) → Answered file (loadableBy v l)
-by-verdict file verdict.Accepted l k = k refl
-by-verdict file (verdict.Refused x) l k = tt
-
 by-tables : (file : List ℕ) (m : Module) (a : LoaderAnswer) → ModuleInside file m → loaderIn file m ≡ a → Answered file (loadableWith file m a)
 unfolding loadableWith
 by-tables file m (loader-answer.Refused x) i e = tt
 by-tables file m (loader-answer.Found t) i e =
-    by-verdict file (entriesCheck file (m .format) (m .parts) t) _ (checked-valid file m t i (loader-inside file m t (loader-room file m i) e))
+    by-verdict (Answered file) (entriesCheck file (m .format) (m .parts) t) (checked-valid file m t i (loader-inside file m t (loader-room file m i) e)) (λ x. tt)
 
 by-module : (file : List ℕ) (a : ModuleAnswer) → moduleAt file ≡ a → Answered file (loadableIn file a)
 unfolding loadableIn

@@ -20,6 +20,7 @@ use Rattle.clash.specs.Overlap.{meets}
 unfoldable pub entryCheck : List ℕ → Format → Parts → LoaderTables → ℕ → Verdict
 entryCheck file f p t i = ownAt file f p t i orElse refuseIf (meets (placeAt file f p t) i) (Overlap i)
 
+-- the first refusal of an entry
 unfoldable pub entriesCheck : List ℕ → Format → Parts → LoaderTables → Verdict
 entriesCheck file f p t = firstOf (entryCheck file f p t) 0 (t .nreloc)
 

@@ -18,20 +18,18 @@ use Rattle.loadable.specs.declared.Loadable.{Loadable}
 use Rattle.loadable.specs.declared.LoadableAnswer.{LoadableAnswer}
 use Rattle.loadable.specs.declared.LoadableAnswer.the-variants.{Found, Refused}
 use Rattle.loadable.specs.Entries.{entriesCheck}
-
-abbrev pub loadableBy : Verdict → Loadable → LoadableAnswer
-loadableBy verdict.Accepted l = Found l
-loadableBy (verdict.Refused x) l = Refused x
+use Rattle.refusal.specs.Order.{byVerdict}
 
 -- the relocation entries of a module whose loader section is accepted
 unfoldable pub loadableWith : List ℕ → Module → LoaderAnswer → LoadableAnswer
 loadableWith file m (loader.Refused x) = Refused x
-loadableWith file m (loader.Found t) = loadableBy (entriesCheck file (m .format) (m .parts) t) (record { layout = m; tables = t })
+loadableWith file m (loader.Found t) = byVerdict (entriesCheck file (m .format) (m .parts) t) (Found (record { layout = m; tables = t })) Refused
 
 unfoldable pub loadableIn : List ℕ → ModuleAnswer → LoadableAnswer
 loadableIn file (found.Refused x) = Refused x
 loadableIn file (found.Found m) = loadableWith file m (loaderIn file m)
 
+-- what module_of answers: opening, the module's sections, its loader section, its entries
 unfoldable pub loadableAt : List ℕ → LoadableAnswer
 loadableAt file = loadableIn file (moduleAt file)
 
@@ -42,7 +40,7 @@ abbrev pub bitsOf : Format → ℕ
 bitsOf Xcoff32 = 32
 bitsOf Xcoff64 = 64
 
--- document 01's number (0: accepted) and item, and every number of the module: all 0 on a refusal
+-- document 01's number (0: accepted) and item, and the module's values: all 0 on a refusal
 pub record ModuleReport : Type 0 where
   pub number : ℕ
   pub item : ℕ

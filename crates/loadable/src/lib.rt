@@ -5,7 +5,7 @@ ghost use Rattle.relocation.specs.Relocation.{ownAt};
 ghost use Rattle.module.specs.Module.{moduleAt};
 ghost use Rattle.module.specs.Inside.{ModuleInside};
 ghost use Rattle.loadable.specs.Entries.{entriesCheck, FirstRefused, verdictAt, EntriesReady};
-ghost use Rattle.loadable.specs.Loadable.{loadableBy, loadableIn, loadableAt, reportOfModule, moduleReport};
+ghost use Rattle.loadable.specs.Loadable.{loadableIn, loadableAt, reportOfModule, moduleReport};
 use format::Format;
 use loader::LoaderAnswer;
 use loader_header::LoaderTables;

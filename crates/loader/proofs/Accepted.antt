@@ -20,7 +20,7 @@ use Rattle.refusal.specs.declared.Verdict.{Verdict}
 use Rattle.refusal.specs.declared.Verdict.the-variants.{Accepted, Refused}
 use Rattle.refusal.specs.Refusal.{isRefused}
 use Rattle.refusal.specs.Order.{_orElse_, refuseIf}
-use Rattle.refusal.proofs.Order.{test-passed, go-on, stop, accepted-first, accepted-rest, accepted-test, first-all}
+use Rattle.refusal.proofs.Order.{test-passed, go-on, stop, accepted-first, accepted-rest, accepted-test, first-all, by-verdict}
 use Rattle.loader_header.specs.declared.LoaderHeader.{LoaderHeader}
 use Rattle.loader_header.specs.Header.{loaderHeaderAt, tablePast, numbersCheck, placeOf, tablesOf, placesCheck, headerCheck, LoaderRoom, PlacesGood}
 use Rattle.module.specs.declared.Module.{Module}
@@ -28,7 +28,7 @@ use Rattle.loader_header.specs.declared.LoaderTables.{LoaderTables}
 use Rattle.loader.specs.declared.LoaderAnswer.{LoaderAnswer}
 use Rattle.loader.specs.declared.LoaderAnswer.the-variants as answer
 use Rattle.loader.specs.Symbol.{TablesInside}
-use Rattle.loader.specs.Loader.{tablesIn, symbolsCheck, loaderCheck, loaderBy, loaderIn}
+use Rattle.loader.specs.Loader.{tablesIn, symbolsCheck, loaderCheck, loaderIn}
 use Rattle.loader.specs.Inside.{LoaderInside}
 use Rattle.loader_header.proofs.Places.{header-long, table-in, place-empty, place-full}
 
@@ -148,10 +148,6 @@ abbrev Answered : List ℕ → Module → LoaderAnswer → Type 0
 Answered file m (answer.Found t) = LoaderInside file m t
 Answered file m (answer.Refused x) = Unit {0}
 
-by-verdict : (file : List ℕ) (m : Module) (v : Verdict) (t : LoaderTables) → (v ≡ Accepted → LoaderInside file m t) → Answered file m (loaderBy v t)
-by-verdict file m Accepted t k = k refl
-by-verdict file m (Refused x) t k = tt
-
 pub loader-inside : (file : List ℕ) (m : Module) (t : LoaderTables) → LoaderRoom (length file) (m .parts .loader .start .0) (m .parts .loader .size) → loaderIn file m ≡ answer.Found t → LoaderInside file m t
 unfolding loaderIn
-loader-inside file m t room e = subst (Answered file m) e (by-verdict file m (loaderCheck file m) (tablesIn file m) (tables-known file m room))
+loader-inside file m t room e = subst (Answered file m) e (by-verdict (Answered file m) (loaderCheck file m) (tables-known file m room) (λ x. tt))

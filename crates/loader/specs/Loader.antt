@@ -3,7 +3,7 @@ use Prim.Native.Nat.{ℕ}
 use mathlib.Core.List.{List}
 use Rattle.refusal.specs.declared.Verdict.{Verdict}
 use Rattle.refusal.specs.declared.Verdict.the-variants as verdict
-use Rattle.refusal.specs.Order.{_orElse_, firstOf}
+use Rattle.refusal.specs.Order.{_orElse_, firstOf, byVerdict}
 use Rattle.module.specs.declared.Module.{Module}
 use Rattle.loader_header.specs.declared.LoaderTables.{LoaderTables}
 use Rattle.loader.specs.declared.LoaderAnswer.{LoaderAnswer}
@@ -15,6 +15,7 @@ use Rattle.loader.specs.Symbol.{symbolCheck}
 unfoldable pub tablesIn : List ℕ → Module → LoaderTables
 tablesIn file m = tablesOf (m .format) (m .parts .loader .start .0) (loaderHeaderAt (m .format) (m .parts .loader .start .0) file)
 
+-- the first LSYM
 unfoldable pub symbolsCheck : List ℕ → Module → LoaderTables → Verdict
 symbolsCheck file m t = firstOf (symbolCheck file (m .format) (m .parts) t) 0 (t .nsyms)
 
@@ -23,9 +24,5 @@ unfoldable pub loaderCheck : List ℕ → Module → Verdict
 loaderCheck file m =
     headerCheck file (m .format) (m .parts .loader .start .0) (m .parts .loader .size) orElse symbolsCheck file m (tablesIn file m)
 
-abbrev pub loaderBy : Verdict → LoaderTables → LoaderAnswer
-loaderBy verdict.Accepted t = Found t
-loaderBy (verdict.Refused x) t = Refused x
-
 unfoldable pub loaderIn : List ℕ → Module → LoaderAnswer
-loaderIn file m = loaderBy (loaderCheck file m) (tablesIn file m)
+loaderIn file m = byVerdict (loaderCheck file m) (Found (tablesIn file m)) Refused

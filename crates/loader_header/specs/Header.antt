@@ -21,11 +21,12 @@ use Rattle.refusal.specs.Order.{_orElse_, refuseIf}
 use Rattle.loader_header.specs.declared.LoaderHeader.{LoaderHeader}
 use Rattle.loader_header.specs.declared.LoaderTables.{LoaderTables}
 
--- where the loader symbols and the relocation entries start in the section: at 32 and behind the symbols in XCOFF32
+-- where the loader symbols start in the section: at 32 in XCOFF32
 unfoldable pub symbolsOffset : Format → ℕ → List ℕ → ℕ
 symbolsOffset Xcoff32 base file = 32
 symbolsOffset Xcoff64 base file = fieldIn (field 40 Eight) base file
 
+-- where the relocation entries start: behind the symbols in XCOFF32
 unfoldable pub relocationsOffset : Format → ℕ → List ℕ → ℕ
 relocationsOffset Xcoff32 base file = 32 + fieldIn (field 4 Four) base file * loaderSymbolLength
 relocationsOffset Xcoff64 base file = fieldIn (field 48 Eight) base file

@@ -42,7 +42,7 @@ pub struct LoaderTables {
     pub strings: FileRange,
 }
 
-pub fn symbols_offset(file: &[u8], f: Format, base: usize) -> u64
+fn symbols_offset(file: &[u8], f: Format, base: usize) -> u64
     requires { ⌜ base + loaderLayout f .length ≤ length (now file) ⌝ }
     ensures { λ r. ⌜ r ≡ symbolsOffset f base (now (file .entry)) ⌝ }
 {
@@ -52,7 +52,7 @@ pub fn symbols_offset(file: &[u8], f: Format, base: usize) -> u64
     }
 }
 
-pub fn relocations_offset(file: &[u8], f: Format, base: usize) -> u64
+fn relocations_offset(file: &[u8], f: Format, base: usize) -> u64
     requires { ⌜ base + loaderLayout f .length ≤ length (now file) ⌝ }
     ensures { λ r. ⌜ r ≡ relocationsOffset f base (now (file .entry)) ⌝ }
 {
@@ -87,7 +87,7 @@ pub fn read_header(file: &[u8], f: Format, base: usize) -> LoaderHeader
     }
 }
 
-pub fn is_table_past(off: u64, len: u64, size: u64) -> bool
+fn is_table_past(off: u64, len: u64, size: u64) -> bool
     ensures { λ r. ⌜ r ≡ tablePast off len size ⌝ }
 {
     if len == 0 {
@@ -96,7 +96,7 @@ pub fn is_table_past(off: u64, len: u64, size: u64) -> bool
     word::ends_past(off, len, size)
 }
 
-pub fn is_version(v: u64) -> bool
+fn is_version(v: u64) -> bool
     ensures { λ r. ⌜ r ≡ (eqb v 1 || eqb v 2) ⌝ }
 {
     if v == 1 {
@@ -106,7 +106,7 @@ pub fn is_version(v: u64) -> bool
 }
 
 // LOADER 1, LIMIT 2, LIMIT 3.
-pub fn check_numbers(h: LoaderHeader) -> Verdict
+fn check_numbers(h: LoaderHeader) -> Verdict
     ensures { λ r. ⌜ r ≡ numbersCheck h ⌝ }
 {
     if !is_version(h.version) {
@@ -122,7 +122,7 @@ pub fn check_numbers(h: LoaderHeader) -> Verdict
 }
 
 // How many zeros the import id table has.
-pub fn count_id_zeros(file: &[u8], start: u64, size: u64, h: LoaderHeader) -> u64
+fn count_id_zeros(file: &[u8], start: u64, size: u64, h: LoaderHeader) -> u64
     requires { ⌜ (start + size ≤ length (now file)) × (tablePast (h .impoff) (h .istlen) size ≡ false) ⌝ }
     ensures { λ r. ⌜ r ≡ zerosIn (bytesOf (now (file .entry)) (range (placeOf start (h .impoff) (h .istlen)) (h .istlen))) ⌝ }
 {
@@ -135,7 +135,7 @@ pub fn count_id_zeros(file: &[u8], start: u64, size: u64, h: LoaderHeader) -> u6
 }
 
 // LOADER 2 to 5.
-pub fn check_places(file: &[u8], f: Format, start: u64, size: u64, h: LoaderHeader) -> Verdict
+fn check_places(file: &[u8], f: Format, start: u64, size: u64, h: LoaderHeader) -> Verdict
     requires { ⌜ (start + size ≤ length (now file)) × Bounded h ⌝ }
     ensures { λ r. ⌜ r ≡ placesCheck (now (file .entry)) f start size h ⌝ }
 {
@@ -176,7 +176,7 @@ pub fn check_header(file: &[u8], f: Format, start: u64, size: u64) -> Verdict
 }
 
 // A table's place in the file; an empty one stands at the section's start.
-pub fn place_of(start: u64, off: u64, len: u64, size: u64) -> u64
+fn place_of(start: u64, off: u64, len: u64, size: u64) -> u64
     requires { ⌜ (tablePast off len size ≡ false) × (start + size ≤ fileLimit) ⌝ }
     ensures { λ r. ⌜ r ≡ placeOf start off len ⌝ }
 {

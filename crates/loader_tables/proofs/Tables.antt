@@ -9,17 +9,17 @@ use lib.ListN.{length}
 use Rattle.refusal.specs.declared.Refusal.{Refusal}
 use Rattle.refusal.specs.declared.Verdict.{Verdict}
 use Rattle.refusal.specs.declared.Verdict.the-variants as verdict
-use Rattle.refusal.specs.Refusal.{isRefused}
+use Rattle.refusal.specs.Refusal.{isRefused, reportOfVerdict}
 use Rattle.refusal.proofs.Order.{accepts}
 use Rattle.loadable.specs.declared.Loadable.{Loadable}
 use Rattle.loadable.specs.declared.LoadableAnswer.{LoadableAnswer}
 use Rattle.loadable.specs.declared.LoadableAnswer.the-variants.{Found, Refused}
 use Rattle.loadable.specs.Loadable.{loadableAt, reportOfModule, moduleReport}
-use Rattle.sheet.specs.Sheet.{leaves, reportOfVerdict}
 use Rattle.rows.specs.Rows.{rowsOf, roomCheck}
 use Rattle.rows.proofs.Laws.{room-exact, length-rows}
 use Rattle.loader_tables.specs.Table.{Table, checkBy, tableCheck, rowsBy, tableAfter}
 use Rattle.loader_tables.specs.Rows.{loaderSymbolRow, loaderSymbols, relocationRow, relocations}
+use Rattle.refusal.specs.Order.{ifAccepted}
 
 -- ---- the answers
 
@@ -34,21 +34,21 @@ module _ (t : Table) (file before : List ℕ) where
     pub room-known : isRefused v ≡ false → length before ≡ t .width * t .count l
     room-known k = room-exact (length before) (t .width * t .count l) (sym e ∙ accepts v k)
 
-    pub listed : {after : List ℕ} → isRefused v ≡ false → after ≡ rowsOf (t .row file l) 0 (t .count l) → (verdict.Accepted ≡ checkBy t (Found l) (length before)) × (after ≡ leaves verdict.Accepted (rowsBy t file (Found l)) before)
+    pub listed : {after : List ℕ} → isRefused v ≡ false → after ≡ rowsOf (t .row file l) 0 (t .count l) → (verdict.Accepted ≡ checkBy t (Found l) (length before)) × (after ≡ ifAccepted verdict.Accepted (rowsBy t file (Found l)) before)
     unfolding checkBy rowsBy
     listed k q = (sym (accepts v k) ∙ e, q)
 
-    pub not-listed : isRefused v ≡ true → (v ≡ checkBy t (Found l) (length before)) × (before ≡ leaves v (rowsBy t file (Found l)) before)
+    pub not-listed : isRefused v ≡ true → (v ≡ checkBy t (Found l) (length before)) × (before ≡ ifAccepted v (rowsBy t file (Found l)) before)
     unfolding checkBy
     not-listed k = (e, as-before v k)
       where
-        as-before : (u : Verdict) → isRefused u ≡ true → before ≡ leaves u (rowsBy t file (Found l)) before
+        as-before : (u : Verdict) → isRefused u ≡ true → before ≡ ifAccepted u (rowsBy t file (Found l)) before
         as-before verdict.Accepted r = cc
         as-before (verdict.Refused x) r = refl
 
   -- by the module's verdict
   module _ {a : LoadableAnswer} (e : a ≡ loadableAt file) where
-    pub table-listed : {l : Loadable} {r : Verdict} {after : List ℕ} → a ≡ Found l → r ≡ checkBy t (Found l) (length before) → after ≡ leaves r (rowsBy t file (Found l)) before → Lists t file before r after
+    pub table-listed : {l : Loadable} {r : Verdict} {after : List ℕ} → a ≡ Found l → r ≡ checkBy t (Found l) (length before) → after ≡ ifAccepted r (rowsBy t file (Found l)) before → Lists t file before r after
     unfolding tableCheck tableAfter
     table-listed {l} {r} {after} k p q =
         let c : r ≡ checkBy t (loadableAt file) (length before) = rw (← e, k) p in

@@ -8,8 +8,8 @@ use Rattle.loadable.specs.declared.Loadable.{Loadable}
 use Rattle.loadable.specs.declared.LoadableAnswer.{LoadableAnswer}
 use Rattle.loadable.specs.declared.LoadableAnswer.the-variants.{Found, Refused}
 use Rattle.loadable.specs.Loadable.{loadableAt}
-use Rattle.sheet.specs.Sheet.{leaves}
 use Rattle.rows.specs.Rows.{rowsOf, roomCheck}
+use Rattle.refusal.specs.Order.{ifAccepted}
 
 -- how many numbers a row has, how many rows there are, and the row of element i of the module in a file
 pub record Table : Type 0 where
@@ -32,4 +32,4 @@ rowsBy t file (Found l) = rowsOf (t .row file l) 0 (t .count l)
 
 -- a refusal leaves what was there
 unfoldable pub tableAfter : Table → List ℕ → List ℕ → List ℕ
-tableAfter t file before = leaves (tableCheck t file (length before)) (rowsBy t file (loadableAt file)) before
+tableAfter t file before = ifAccepted (tableCheck t file (length before)) (rowsBy t file (loadableAt file)) before

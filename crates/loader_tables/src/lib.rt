@@ -5,11 +5,12 @@ ghost use lib.ListN.{length};
 ghost use Rattle.relocation.specs.Relocation.{bytesWide};
 ghost use Rattle.loadable.specs.Loadable.{loadableAt};
 ghost use Rattle.loadable.specs.Valid.{Valid};
-ghost use Rattle.sheet.specs.Sheet.{leaves, reportOfVerdict};
 ghost use Rattle.report.specs.Report.{oneIf};
 ghost use Rattle.rows.specs.Rows.{rowsOf};
 ghost use Rattle.loader_tables.specs.Table.{checkBy, tableCheck, rowsBy, tableAfter};
 ghost use Rattle.loader_tables.specs.Rows.{loaderSymbolRow, loaderSymbols, relocationRow, relocations};
+ghost use Rattle.refusal.specs.Order.{ifAccepted};
+ghost use Rattle.refusal.specs.Refusal.{reportOfVerdict};
 use loadable::Loadable;
 use loadable::LoadableAnswer;
 use refusal::Verdict;
@@ -78,7 +79,7 @@ fn write_loader_symbols(file: &[u8], l: Loadable, out: &mut [u64])
 fn list_loader_symbols(file: &[u8], l: Loadable, out: &mut [u64]) -> Verdict
     requires { ⌜ loadableAt (now file) ≡ LoadableAnswer.Found l ⌝ }
     ensures answer { λ r. ⌜ r ≡ checkBy loaderSymbols (LoadableAnswer.Found l) (length (now (out .entry))) ⌝ }
-    ensures rows { λ r. ⌜ now (out .exit) ≡ leaves r (rowsBy loaderSymbols (now (file .entry)) (LoadableAnswer.Found l)) (now (out .entry)) ⌝ }
+    ensures rows { λ r. ⌜ now (out .exit) ≡ ifAccepted r (rowsBy loaderSymbols (now (file .entry)) (LoadableAnswer.Found l)) (now (out .entry)) ⌝ }
 {
     let t = l.tables;
     let v = rows::check_room(out.len() as u64, 9 * t.nsyms);
@@ -144,7 +145,7 @@ fn write_relocations(file: &[u8], l: Loadable, out: &mut [u64])
 fn list_relocations(file: &[u8], l: Loadable, out: &mut [u64]) -> Verdict
     requires { ⌜ Valid (now file) l ⌝ }
     ensures answer { λ r. ⌜ r ≡ checkBy relocations (LoadableAnswer.Found l) (length (now (out .entry))) ⌝ }
-    ensures rows { λ r. ⌜ now (out .exit) ≡ leaves r (rowsBy relocations (now (file .entry)) (LoadableAnswer.Found l)) (now (out .entry)) ⌝ }
+    ensures rows { λ r. ⌜ now (out .exit) ≡ ifAccepted r (rowsBy relocations (now (file .entry)) (LoadableAnswer.Found l)) (now (out .entry)) ⌝ }
 {
     let t = l.tables;
     let v = rows::check_room(out.len() as u64, 8 * t.nreloc);

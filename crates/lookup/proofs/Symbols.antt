@@ -17,6 +17,7 @@ use Rattle.format.specs.declared.NameField.{NameField}
 use Rattle.format.specs.declared.NameField.the-variants.{Short, Offset}
 use Rattle.format.specs.Layout.{symbolLayout, loaderSymbolLength}
 use Rattle.format.proofs.Ranges.{text-inside}
+use Rattle.refusal.specs.declared.RangeAnswer.the-variants as range
 use Rattle.refusal.specs.declared.Verdict.{Verdict}
 use Rattle.refusal.specs.declared.Verdict.the-variants as verdict
 use Rattle.refusal.specs.Part.{Within}
@@ -30,7 +31,8 @@ use Rattle.loadable.specs.declared.LoadableAnswer.the-variants as loadable
 use Rattle.loadable.specs.Loadable.{loadableAt}
 use Rattle.loadable.specs.Valid.{Valid}
 use Rattle.loadable.proofs.Accepted.{loadable-valid}
-use Rattle.lookup.specs.Symbol.{indexCheck, entryOf, nameBy, nameOf, symbolNameIn, loaderNameAt}
+use Rattle.lookup.specs.Symbol.{indexCheck, entryOf, nameOf, symbolNameIn, loaderNameAt}
+use Rattle.refusal.specs.Order.{byVerdict}
 
 -- an index that is accepted is in the table
 pub index-known : (t : LoaderTables) (i : ℕ) → indexCheck t i ≡ verdict.Accepted → (3 ≤ i) × (i < 3 + t .nsyms)
@@ -67,7 +69,7 @@ unfolding nameIn
 name-in-file file f strings base i Short h k = text-inside (symbolLayout f .name) base file (entry-inside f base (length file) refl k .2)
 name-in-file file f strings base i (Offset o) h k = string-within file strings o i h
 
-by-index : (file : List ℕ) (l : Loadable) (i : ℕ) (v : Verdict) → indexCheck (l .tables) i ≡ v → Valid file l → Within (length file) (nameBy v (nameOf file l i))
+by-index : (file : List ℕ) (l : Loadable) (i : ℕ) (v : Verdict) → indexCheck (l .tables) i ≡ v → Valid file l → Within (length file) (byVerdict v (nameOf file l i) range.Refused)
 unfolding nameOf
 by-index file l i (verdict.Refused x) e h = tt
 by-index file l i verdict.Accepted e h =

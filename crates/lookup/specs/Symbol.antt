@@ -9,7 +9,7 @@ use Rattle.refusal.specs.declared.RangeAnswer.{RangeAnswer}
 use Rattle.refusal.specs.declared.RangeAnswer.the-variants as range
 use Rattle.refusal.specs.declared.Verdict.{Verdict}
 use Rattle.refusal.specs.declared.Verdict.the-variants as verdict
-use Rattle.refusal.specs.Order.{refuseIf}
+use Rattle.refusal.specs.Order.{refuseIf, byVerdict}
 use Rattle.refusal.specs.Refusal.{numberOf, itemOf}
 use Rattle.loader.specs.declared.LoaderEntry.{LoaderEntry}
 use Rattle.loader_header.specs.declared.LoaderTables.{LoaderTables}
@@ -21,7 +21,7 @@ use Rattle.loadable.specs.Loadable.{loadableAt}
 use Rattle.lookup.specs.declared.LoaderSymbolAnswer.{LoaderSymbolAnswer}
 use Rattle.lookup.specs.declared.LoaderSymbolAnswer.the-variants.{Found, Refused}
 
--- 0, 1 and 2 are text, data and bss; the table's own start at 3
+-- INDEX: 0, 1 and 2 are text, data and bss; the table's own start at 3
 unfoldable pub indexCheck : LoaderTables → ℕ → Verdict
 indexCheck t i = refuseIf (ltb i 3 || not (ltb i (3 + t .nsyms))) (Index (NoLoaderSymbol i))
 
@@ -29,28 +29,20 @@ indexCheck t i = refuseIf (ltb i 3 || not (ltb i (3 + t .nsyms))) (Index (NoLoad
 unfoldable pub entryOf : List ℕ → Loadable → ℕ → LoaderEntry
 entryOf file l i = entryAt (l .layout .format) (entryStart (l .tables) (i - 3)) file
 
-abbrev pub symbolBy : Verdict → LoaderEntry → LoaderSymbolAnswer
-symbolBy verdict.Accepted e = Found e
-symbolBy (verdict.Refused x) e = Refused x
-
 unfoldable pub symbolIn : List ℕ → LoadableAnswer → ℕ → LoaderSymbolAnswer
 symbolIn file (loadable.Refused x) i = Refused x
-symbolIn file (loadable.Found l) i = symbolBy (indexCheck (l .tables) i) (entryOf file l i)
+symbolIn file (loadable.Found l) i = byVerdict (indexCheck (l .tables) i) (Found (entryOf file l i)) Refused
 
 unfoldable pub loaderSymbolAt : List ℕ → ℕ → LoaderSymbolAnswer
 loaderSymbolAt file i = symbolIn file (loadableAt file) i
 
 -- where its name lies, without its closing zero
-abbrev pub nameBy : Verdict → RangeAnswer → RangeAnswer
-nameBy verdict.Accepted r = r
-nameBy (verdict.Refused x) r = range.Refused x
-
 unfoldable pub nameOf : List ℕ → Loadable → ℕ → RangeAnswer
 nameOf file l i = nameIn file (l .layout .format) (l .tables .strings) (entryStart (l .tables) (i - 3)) i (entryOf file l i .name)
 
 unfoldable pub symbolNameIn : List ℕ → LoadableAnswer → ℕ → RangeAnswer
 symbolNameIn file (loadable.Refused x) i = range.Refused x
-symbolNameIn file (loadable.Found l) i = nameBy (indexCheck (l .tables) i) (nameOf file l i)
+symbolNameIn file (loadable.Found l) i = byVerdict (indexCheck (l .tables) i) (nameOf file l i) range.Refused
 
 unfoldable pub loaderNameAt : List ℕ → ℕ → RangeAnswer
 loaderNameAt file i = symbolNameIn file (loadableAt file) i

@@ -13,7 +13,7 @@ use Rattle.format.specs.Layout.{auxLayout}
 use Rattle.refusal.specs.declared.Verdict.{Verdict}
 use Rattle.refusal.specs.declared.Verdict.the-variants as verdict
 use Rattle.refusal.specs.Order.{refuseIf}
-use Rattle.refusal.proofs.Order.{accepted-first, accepted-rest, accepted-test}
+use Rattle.refusal.proofs.Order.{accepted-first, accepted-rest, accepted-test, by-verdict}
 use Rattle.header.specs.declared.Summary.{Summary}
 use Rattle.header.specs.Inside.{Inside}
 use Rattle.header.specs.Open.{openOf}
@@ -26,7 +26,7 @@ use Rattle.module.specs.declared.ModuleAnswer.{ModuleAnswer}
 use Rattle.module.specs.declared.ModuleAnswer.the-variants.{Found, Refused}
 use Rattle.parts.specs.Sections.{talliesOf, oneEach, partAt, partsOf, threadCheck}
 use Rattle.auxiliary.specs.Auxiliary.{numbersAgree, sizesAgree}
-use Rattle.module.specs.Module.{lacksData, isAnchor, bssBelow, imageLength, partsCheck, auxOf, moduleCheck, moduleWith, moduleBy, moduleIn, moduleBehind, moduleAt}
+use Rattle.module.specs.Module.{lacksData, isAnchor, bssBelow, imageLength, partsCheck, auxOf, moduleCheck, moduleWith, moduleIn, moduleAt}
 use Rattle.module.specs.Inside.{PartInside, ModuleInside}
 use Rattle.parts.proofs.Tallied.{each-known}
 use Rattle.module.proofs.Extent.{bss-after, image-plain, image-bss, parts-image}
@@ -87,26 +87,18 @@ abbrev Answered : List ℕ → ModuleAnswer → Type 0
 Answered file (Found m) = ModuleInside file m
 Answered file (Refused x) = Unit {0}
 
-by-verdict : (file : List ℕ) (v : Verdict) (m : Module) → (v ≡ verdict.Accepted → ModuleInside file m) → Answered file (moduleBy v m)
-by-verdict file verdict.Accepted m k = k refl
-by-verdict file (verdict.Refused x) m k = tt
-
 module-answered : (file : List ℕ) (y : Summary) → Inside file y → Answered file (moduleIn file y)
 unfolding moduleIn moduleCheck
 module-answered file y i =
-    by-verdict file (moduleCheck file y) (moduleWith (y .format) (partsOf y) (auxOf file y))
+    by-verdict (Answered file) (moduleCheck file y)
     (λ e. let r1 = accepted-rest (refuseIf (ltb (y .opthdr) (auxLayout (y .format) .length)) _) _ e in
     let r2 = accepted-rest (refuseIf (not (oneEach (talliesOf y))) _) _ r1 in
     checked-inside file y i
     (not-false (oneEach (talliesOf y)) (accepted-test (not (oneEach (talliesOf y))) _ (accepted-first (refuseIf (not (oneEach (talliesOf y))) _) _ r1)))
     (accepted-rest (threadCheck y) _ r2))
-
-behind-answered : (file : List ℕ) (y : Summary) (v : Verdict) → (v ≡ verdict.Accepted → Inside file y) → Answered file (moduleBehind file y v)
-unfolding moduleBehind
-behind-answered file y verdict.Accepted k = module-answered file y (k refl)
-behind-answered file y (verdict.Refused x) k = tt
+    (λ x. tt)
 
 -- an accepted module's sections are inside the file
 pub module-inside : (file : List ℕ) (m : Module) → moduleAt file ≡ Found m → ModuleInside file m
 unfolding moduleAt
-module-inside file m e = subst (Answered file) e (behind-answered file (openOf file .summary) (openOf file .verdict) (opened-inside file))
+module-inside file m e = subst (Answered file) e (by-verdict (Answered file) (openOf file .verdict) (λ k. module-answered file (openOf file .summary) (opened-inside file k)) (λ x. tt))

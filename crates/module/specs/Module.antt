@@ -13,7 +13,7 @@ use Rattle.refusal.specs.declared.AddressItem.the-variants.{BssBelowData}
 use Rattle.refusal.specs.declared.LimitItem.the-variants.{DataImage}
 use Rattle.refusal.specs.declared.Verdict.{Verdict}
 use Rattle.refusal.specs.declared.Verdict.the-variants as verdict
-use Rattle.refusal.specs.Order.{_orElse_, refuseIf}
+use Rattle.refusal.specs.Order.{_orElse_, refuseIf, byVerdict}
 use Rattle.header.specs.declared.Summary.{Summary}
 use Rattle.header.specs.Open.{openOf}
 use Rattle.auxiliary.specs.declared.AuxHeader.{AuxHeader}
@@ -25,15 +25,15 @@ use Rattle.module.specs.declared.ModuleAnswer.the-variants.{Found, Refus
 use Rattle.parts.specs.Sections.{talliesOf, oneEach, partsOf, threadCheck}
 use Rattle.auxiliary.specs.Auxiliary.{auxAt, numbersAgree, sizesAgree}
 
--- a size but no raw data
+-- MODULE 3: a size but no raw data
 unfoldable pub lacksData : Part → Bool
 lacksData p = not (eqb (p .size) 0) && not (p .raw)
 
--- an entry or TOC section number: 0, text or data
+-- MODULE 4, where not: an entry or TOC section number is 0, text or data
 unfoldable pub isAnchor : Parts → SectionNumber → Bool
 isAnchor p n = eqb (n .0) 0 || eqb (n .0) (p .text .number .0) || eqb (n .0) (p .«data» .number .0)
 
--- a bss that is not empty starts below the end of data
+-- ADDRESS: a bss that is not empty starts below the end of data
 unfoldable pub bssBelow : Parts → Bool
 bssBelow p = not (eqb (p .bss .size) 0) && ltb (p .bss .address .0) (p .«data» .address .0 + p .«data» .size)
 
@@ -41,7 +41,7 @@ bssBelow p = not (eqb (p .bss .size) 0) && ltb (p .bss .address .0) (p .«data»
 unfoldable pub imageLength : Parts → ℕ
 imageLength p = cond (eqb (p .bss .size) 0) (p .«data» .size) (p .bss .address .0 - p .«data» .address .0 + p .bss .size)
 
--- the checks of the parts p with the auxiliary header a
+-- MODULE 2, 3, 4, ADDRESS of bss, LIMIT 4: the sections p with the auxiliary header a
 unfoldable pub partsCheck : Parts → AuxHeader → Verdict
 partsCheck p a =
     refuseIf (not (numbersAgree p a && sizesAgree p a)) (refusal.Module AuxHeaderDiffers)
@@ -50,9 +50,11 @@ partsCheck p a =
     orElse refuseIf (bssBelow p) (refusal.Address (BssBelowData (p .bss .number)))
     orElse refuseIf (ltb dataImageLimit (imageLength p)) (refusal.Limit DataImage)
 
+-- the auxiliary header follows the file header
 unfoldable pub auxOf : List ℕ → Summary → AuxHeader
 auxOf file y = auxAt (y .format) (headerLayout (y .format) .length) file
 
+-- MODULE 0, 1, THREAD, then the sections
 unfoldable pub moduleCheck : List ℕ → Summary → Verdict
 moduleCheck file y =
     refuseIf (ltb (y .opthdr) (auxLayout (y .format) .length)) (refusal.Module ShortAuxHeader)
@@ -70,17 +72,9 @@ moduleWith f p a =
       toc = record { section = a .sntoc; address = a .toc };
     }
 
-abbrev pub moduleBy : Verdict → Module → ModuleAnswer
-moduleBy verdict.Accepted m = Found m
-moduleBy (verdict.Refused x) m = Refused x
-
 unfoldable pub moduleIn : List ℕ → Summary → ModuleAnswer
-moduleIn file y = moduleBy (moduleCheck file y) (moduleWith (y .format) (partsOf y) (auxOf file y))
+moduleIn file y = byVerdict (moduleCheck file y) (Found (moduleWith (y .format) (partsOf y) (auxOf file y))) Refused
 
 -- opening's refusals come first
-unfoldable pub moduleBehind : List ℕ → Summary → Verdict → ModuleAnswer
-moduleBehind file y (verdict.Refused x) = Refused x
-moduleBehind file y verdict.Accepted = moduleIn file y
-
 unfoldable pub moduleAt : List ℕ → ModuleAnswer
-moduleAt file = moduleBehind file (openOf file .summary) (openOf file .verdict)
+moduleAt file = byVerdict (openOf file .verdict) (moduleIn file (openOf file .summary)) Refused

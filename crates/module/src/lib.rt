@@ -6,10 +6,10 @@ ghost use lib.Dec.{ltb};
 ghost use lib.ListN.{length};
 ghost use Rattle.format.specs.Layout.{auxLayout};
 ghost use Rattle.format.specs.Limit.{dataImageLimit};
-ghost use Rattle.refusal.specs.Order.{_orElse_};
+ghost use Rattle.refusal.specs.Order.{_orElse_, byVerdict};
 ghost use Rattle.header.specs.Inside.{Inside};
 ghost use Rattle.parts.specs.Sections.{tally, talliesOf, oneEach, partsOf, threadCheck};
-ghost use Rattle.module.specs.Module.{lacksData, isAnchor, bssBelow, imageLength, partsCheck, auxOf, moduleWith, moduleBy, moduleIn, moduleAt};
+ghost use Rattle.module.specs.Module.{lacksData, isAnchor, bssBelow, imageLength, partsCheck, auxOf, moduleWith, moduleIn, moduleAt};
 use auxiliary::AuxHeader;
 use format::Format;
 use format::SectionNumber;
@@ -185,7 +185,7 @@ fn module_with(f: Format, p: Parts, a: AuxHeader) -> Module
 // The module of an opened file whose section set is right.
 fn join_parts(file: &[u8], y: Summary, t: Tallies) -> ModuleAnswer
     requires { ⌜ Inside (now file) y × (auxLayout (y .format) .length ≤ y .opthdr) × (t ≡ talliesOf y) × (oneEach t ≡ true) ⌝ }
-    ensures { λ r. ⌜ r ≡ moduleBy (threadCheck y orElse partsCheck (partsOf y) (auxOf (now (file .entry)) y)) (moduleWith (y .format) (partsOf y) (auxOf (now (file .entry)) y)) ⌝ }
+    ensures { λ r. ⌜ r ≡ byVerdict (threadCheck y orElse partsCheck (partsOf y) (auxOf (now (file .entry)) y)) (ModuleAnswer.Found (moduleWith (y .format) (partsOf y) (auxOf (now (file .entry)) y))) ModuleAnswer.Refused ⌝ }
 {
     let sections = y.sections;
     let v = parts::check_thread(sections, y.count);

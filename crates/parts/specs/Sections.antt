@@ -16,6 +16,7 @@ use Rattle.parts.specs.declared.Tally.{Tally}
 use Rattle.parts.specs.declared.Tallies.{Tallies}
 use Rattle.parts.specs.declared.Part.{Part}
 use Rattle.parts.specs.declared.Parts.{Parts}
+use Rattle.format.specs.declared.SectionKind.the-variants.{Text, Data, Bss, Loader, Tdata, Tbss}
 
 -- the flag of the kind of the section with index i
 abbrev pub flagAt : List Section → ℕ → ℕ
@@ -30,8 +31,9 @@ tally sections flag (suc i) =
 abbrev pub tallyOf : Summary → ℕ → Tally
 tallyOf y flag = tally (y .sections) flag (y .count)
 
+-- of each kind that a module has one of
 unfoldable pub talliesOf : Summary → Tallies
-talliesOf y = record { text = tallyOf y 0x0020; «data» = tallyOf y 0x0040; bss = tallyOf y 0x0080; loader = tallyOf y 0x1000 }
+talliesOf y = record { text = tallyOf y (flagOf Text); «data» = tallyOf y (flagOf Data); bss = tallyOf y (flagOf Bss); loader = tallyOf y (flagOf Loader) }
 
 -- exactly one each of text, data, bss and loader
 unfoldable pub oneEach : Tallies → Bool
@@ -43,19 +45,21 @@ partAt sections n =
     let s = getD sections (n - 1) blankSection in
     record { number = record { 0 = n }; address = s .vaddr; size = s .size; start = s .scnptr; raw = s .raw }
 
+-- the sections of a module, by kind
 unfoldable pub partsOf : Summary → Parts
 partsOf y =
     record {
-      text = partAt (y .sections) (tallyOf y 0x0020 .last);
-      «data» = partAt (y .sections) (tallyOf y 0x0040 .last);
-      bss = partAt (y .sections) (tallyOf y 0x0080 .last);
-      loader = partAt (y .sections) (tallyOf y 0x1000 .last);
+      text = partAt (y .sections) (tallyOf y (flagOf Text) .last);
+      «data» = partAt (y .sections) (tallyOf y (flagOf Data) .last);
+      bss = partAt (y .sections) (tallyOf y (flagOf Bss) .last);
+      loader = partAt (y .sections) (tallyOf y (flagOf Loader) .last);
     }
 
--- THREAD: the first tdata or tbss section
+-- THREAD: a tdata or tbss section
 unfoldable pub threadAt : List Section → ℕ → Verdict
 threadAt sections i =
-    refuseIf (eqb (flagAt sections i) 0x0400 || eqb (flagAt sections i) 0x0800) (Thread (ThreadSection (record { 0 = i + 1 })))
+    refuseIf (eqb (flagAt sections i) (flagOf Tdata) || eqb (flagAt sections i) (flagOf Tbss)) (Thread (ThreadSection (record { 0 = i + 1 })))
 
+-- the lowest-numbered one
 unfoldable pub threadCheck : Summary → Verdict
 threadCheck y = firstOf (threadAt (y .sections)) 0 (y .count)

@@ -38,7 +38,7 @@ pub struct Parts {
 }
 
 // One section more, of the kind that is counted or of another.
-pub fn tally_step(t: Tally, hit: bool, i: u64) -> Tally
+fn tally_step(t: Tally, hit: bool, i: u64) -> Tally
     requires { ⌜ (t .count ≤ i) × (i < sectionLimit) ⌝ }
     ensures { λ r. ⌜ r ≡ cond hit (record { count = t .count + 1; last = i + 1 }) t ⌝ }
 {
@@ -51,7 +51,7 @@ pub fn tally_step(t: Tally, hit: bool, i: u64) -> Tally
     t
 }
 
-pub fn tally_kind(sections: [Section; 32], flag: u64, count: u64) -> Tally
+fn tally_kind(sections: [Section; 32], flag: u64, count: u64) -> Tally
     requires { ⌜ count ≤ sectionLimit ⌝ }
     ensures { λ r. ⌜ r ≡ tally sections flag count ⌝ }
 {
@@ -66,7 +66,7 @@ pub fn tally_kind(sections: [Section; 32], flag: u64, count: u64) -> Tally
     t
 }
 
-pub fn part_at(sections: [Section; 32], n: u64) -> Part
+fn part_at(sections: [Section; 32], n: u64) -> Part
     requires { ⌜ (0 < n) × (n ≤ sectionLimit) ⌝ }
     ensures { λ r. ⌜ r ≡ partAt sections n ⌝ }
 {
@@ -141,7 +141,7 @@ pub fn find_parts(y: Summary, t: Tallies) -> Parts
     }
 }
 
-pub fn is_thread(k: u64) -> bool
+fn is_thread(k: u64) -> bool
     ensures { λ r. ⌜ r ≡ (eqb k 0x0400 || eqb k 0x0800) ⌝ }
 {
     if k == 0x0400 {

@@ -5,12 +5,10 @@ use mathlib.Core.List.{List, [], _∷_, _++_}
 use Prim.Native.Nat.{ℕ}
 use lib.ListN.{length, getD}
 use Rattle.update.specs.Update.{Bytes}
-use Rattle.history.specs.Images.{Images, All}
+use Rattle.history.specs.Images.{Images, All, imageOf, InField}
 use Rattle.history.specs.Plan.{Plan, SamePlan, builtImages}
-use Rattle.history.specs.Call.{Call, build, effect, run}
+use Rattle.history.specs.Call.{Call, build, effect, run, Accepts}
 use Rattle.history.specs.Book.{bookAfter, bookImages, Chain}
-use Rattle.history.proofs.Apply.{imageOf, InField}
-use Rattle.history.proofs.Check.{Accepts}
 use Rattle.history.proofs.Demand3.{demand-3}
 use Rattle.history.proofs.Corollaries.{reached-images, build-move-move, build-move-back, move-back, move-same, move-outside}
 use Rattle.plan.specs.Relocatable.{relocatableAt}

@@ -40,7 +40,7 @@ module _ (file : List ℕ) (l : Loadable) where
 module _ (file : List ℕ) (l : Loadable) (v : Valid file l) where
   -- each section's bytes are in its raw image
   section-in : (t : Bool) → cond t (l .layout .parts .text .size) (l .layout .parts .«data» .size) ≤ lengthOf t (relocatableOf file l .raw)
-  unfolding lengthOf relocatableOf
+  unfolding relocatableOf
   section-in true = rw (length-raw-text file l v) (omega arith)
   section-in false = rw (length-raw-data file l v) (v .sections .holds)
 
@@ -80,13 +80,3 @@ answer-sound file (loadable.Refused x) e = no-entries-sound (noModule x) (unfold
 pub relocatable-sound : (file : List ℕ) → Sound (relocatableAt file)
 unfolding relocatableAt
 relocatable-sound file = answer-sound file (loadableAt file) refl
-
--- what an accepted file is to builds and moves
-pub relocatable-found : (file : List ℕ) {l : Loadable} → loadableAt file ≡ loadable.Found l → relocatableAt file ≡ relocatableOf file l
-unfolding relocatableAt relocatableBy
-relocatable-found file e = rw e refl
-
--- what a refused file is to them
-pub relocatable-refused : (file : List ℕ) {x : Refusal} → loadableAt file ≡ loadable.Refused x → relocatableAt file ≡ noModule x
-unfolding relocatableAt relocatableBy
-relocatable-refused file e = rw e refl

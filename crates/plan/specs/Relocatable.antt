@@ -27,7 +27,8 @@ use Rattle.history.specs.declared.Relocation.{Relocation}
 use Rattle.history.specs.Images.{Images, images}
 use Rattle.history.specs.Plan.{Anchored, Relocatable}
 
--- which address the loader symbol with place k in the table follows: an import its own, a deferred import (file id 0) none, any other its section's
+-- which address the loader symbol with place k in the table follows: an import its own, a deferred import (file id 0) none, any other its section's,
+-- bss following data
 unfoldable pub followedOf : SectionNumber → ℕ → LoaderEntry → Followed
 followedOf text k e =
     cond (isImported (e .smtype)) (cond (eqb (e .ifile) 0) followed.Nothing (followed.Import k (e .value)))
@@ -59,10 +60,11 @@ unfoldable pub relocationsFrom : List ℕ → Loadable → ℕ → ℕ → List 
 relocationsFrom file l i zero = []
 relocationsFrom file l i (suc n) = relocationAt file l i ∷ relocationsFrom file l (suc i) n
 
--- the raw images: the text bytes; the data bytes, then zeros
+-- the raw text: the section's bytes
 unfoldable pub rawText : List ℕ → Module → List ℕ
 rawText file m = bytesOf file (range (m .parts .text .start .0) (m .parts .text .size))
 
+-- the raw data image: the section's bytes, zeros up to bss, then bss zeros
 unfoldable pub rawData : List ℕ → Module → List ℕ
 rawData file m =
     bytesOf file (range (m .parts .«data» .start .0) (m .parts .«data» .size)) ++ replicate (m .image - m .parts .«data» .size) 0

@@ -15,7 +15,7 @@ use parts::Part;
 // ---- the raw images
 
 // Copies `n` bytes of the file from `at` to the start of `dst`.
-pub fn copy_bytes(file: &[u8], at: usize, n: usize, dst: &mut [u8])
+fn copy_bytes(file: &[u8], at: usize, n: usize, dst: &mut [u8])
     requires { ⌜ (0 < n → at + n ≤ length (now file)) × (n ≤ length (now dst)) ⌝ }
     ensures { λ _. ⌜ now (dst .exit) ≡ paste (now (dst .entry)) 0 (drop at (now (file .entry))) n ⌝ }
 {
@@ -27,7 +27,7 @@ pub fn copy_bytes(file: &[u8], at: usize, n: usize, dst: &mut [u8])
 }
 
 // Makes every byte from `n` on 0.
-pub fn clear_from(dst: &mut [u8], n: usize)
+fn clear_from(dst: &mut [u8], n: usize)
     requires { ⌜ n ≤ length (now dst) ⌝ }
     ensures { λ _. ⌜ now (dst .exit) ≡ paste (now (dst .entry)) n (replicate (length (now (dst .entry)) - n) 0) (length (now (dst .entry)) - n) ⌝ }
 {
@@ -39,7 +39,7 @@ pub fn clear_from(dst: &mut [u8], n: usize)
 }
 
 // Fills an image: a section's bytes, then zeros.
-pub fn fill(file: &[u8], p: Part, dst: &mut [u8])
+fn fill(file: &[u8], p: Part, dst: &mut [u8])
     requires { ⌜ PartInside (length (now file)) p × (p .size ≤ length (now dst)) ⌝ }
     ensures { λ _. ⌜ now (dst .exit) ≡ bytesOf (now (file .entry)) (range (p .start .0) (p .size)) ++ replicate (length (now (dst .entry)) - p .size) 0 ⌝ }
 {

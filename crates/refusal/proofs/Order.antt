@@ -1,6 +1,6 @@
 -- The first refusal in an order of checks, and of a table. Assumes nothing.
 use mathlib.Core.Path.{_≡_, refl, sym, _∙_, ap}
-use mathlib.Core.Bool.{Bool, true, false}
+use mathlib.Core.Bool.{Bool, true, false, not}
 use Prim.Native.Nat.{ℕ, zero, suc, _+_, _-_, _≤_, _<_}
 use native.Mathlib.Decide.{ℕ-discrete}
 use native.Mathlib.Numerals.{add-one}
@@ -10,7 +10,9 @@ use Rattle.refusal.specs.declared.Refusal.{Refusal}
 use Rattle.refusal.specs.declared.Verdict.{Verdict}
 use Rattle.refusal.specs.declared.Verdict.the-variants.{Accepted, Refused}
 use Rattle.refusal.specs.Refusal.{isRefused}
-use Rattle.refusal.specs.Order.{_orElse_, refuseIf, firstOf}
+use Rattle.refusal.specs.Order.{_orElse_, refuseIf, firstOf, byVerdict}
+use lib.Dec.{eqb, ltb}
+use borrow.Author.Tests.{eqb-true, not-false, ltb-false}
 
 -- a refusal is no acceptance
 pub not-accepted : {A : Type 0} {x : Refusal} → Refused x ≡ Accepted → A
@@ -60,6 +62,18 @@ accepted-rest (Refused x) w e = cc
 pub accepted-test : (b : Bool) (x : Refusal) → refuseIf b x ≡ Accepted → b ≡ false
 accepted-test true x e = cc
 accepted-test false x e = refl
+
+-- a test that accepts, by what it compares
+pub accepted-equal : (a b : ℕ) (x : Refusal) → refuseIf (not (eqb a b)) x ≡ Accepted → a ≡ b
+accepted-equal a b x e = eqb-true a b (not-false (eqb a b) (accepted-test (not (eqb a b)) x e))
+
+pub accepted-most : (a b : ℕ) (x : Refusal) → refuseIf (ltb a b) x ≡ Accepted → b ≤ a
+accepted-most a b x e = ltb-false a b (accepted-test (ltb a b) x e)
+
+-- what holds of both outcomes of a verdict holds of what is given by it
+pub by-verdict : {A : Type 0} (P : A → Type 0) (v : Verdict) {a : A} {f : Refusal → A} → (v ≡ Accepted → P a) → ((x : Refusal) → P (f x)) → P (byVerdict v a f)
+by-verdict P Accepted h k = h refl
+by-verdict P (Refused x) h k = k x
 
 module _ (check : ℕ → Verdict) where
   first-open : (n i : ℕ) → i < n → firstOf check i (n - i) ≡ (check i orElse firstOf check (i + 1) (n - (i + 1)))

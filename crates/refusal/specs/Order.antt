@@ -16,6 +16,15 @@ abbrev pub refuseIf : Bool → Refusal → Verdict
 refuseIf true x = Refused x
 refuseIf false x = Accepted
 
+-- what is given where a verdict accepts, or for its refusal
+abbrev pub byVerdict : {A : Type 0} → Verdict → A → (Refusal → A) → A
+byVerdict Accepted a f = a
+byVerdict (Refused x) a f = f x
+
+-- the same, whatever the refusal is
+abbrev pub ifAccepted : {A : Type 0} → Verdict → A → A → A
+ifAccepted v a b = byVerdict v a (λ x. b)
+
 -- the first refusal of the checks of a table's entries i, i + 1, .., n of them
 unfoldable pub firstOf : (ℕ → Verdict) → ℕ → ℕ → Verdict
 firstOf check i zero = Accepted

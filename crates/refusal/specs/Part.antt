@@ -8,10 +8,6 @@ use Rattle.refusal.specs.declared.RangeAnswer.the-variants.{Found, Refus
 use Rattle.refusal.specs.declared.Verdict.{Verdict}
 use Rattle.refusal.specs.declared.Verdict.the-variants as verdict
 
-abbrev pub rangeBy : Verdict → FileRange → RangeAnswer
-rangeBy verdict.Accepted r = Found r
-rangeBy (verdict.Refused x) r = Refused x
-
 -- the very bytes of the file: none on a refusal
 abbrev pub rangeBytes : List ℕ → RangeAnswer → List ℕ
 rangeBytes file (Found r) = bytesOf file r

@@ -18,7 +18,7 @@ use Rattle.refusal.specs.declared.LoaderItem.the-variants.{ShortHeader, 
 use Rattle.refusal.specs.declared.PlanItem.{PlanItem}
 use Rattle.refusal.specs.declared.PlanItem.the-variants.{TextAddress, DataAddress, ImportAddress}
 use Rattle.refusal.specs.declared.RoomItem.{RoomItem}
-use Rattle.refusal.specs.declared.RoomItem.the-variants.{TextBuffer, SheetBuffer, DataBuffer, AddressList}
+use Rattle.refusal.specs.declared.RoomItem.the-variants.{TextBuffer, SheetBuffer, RowBuffer, DataBuffer, AddressList}
 use Rattle.refusal.specs.declared.Refusal.{Refusal}
 use Rattle.refusal.specs.declared.Refusal.the-variants.{Short, Magic, Limit, Kind, Bounds, Address, Strings, Index, Aux, Name, Scnum, Csect, Module, Thread, Loader, Lsym, Lrel, Overlap, Plan, Room, Sheet}
 use Rattle.refusal.specs.declared.Verdict.{Verdict}
@@ -99,6 +99,7 @@ planItem (ImportAddress i) = i
 abbrev pub roomItem : RoomItem → ℕ
 roomItem TextBuffer = 0
 roomItem SheetBuffer = 0
+roomItem RowBuffer = 0
 roomItem DataBuffer = 1
 roomItem AddressList = 2
 
@@ -134,6 +135,14 @@ reportNumber (Refused x) = numberOf x
 abbrev pub reportItem : Verdict → ℕ
 reportItem Accepted = 0
 reportItem (Refused x) = itemOf x
+
+-- document 01's number and item of an answer that is a verdict
+pub record VerdictReport : Type 0 where
+  pub number : ℕ
+  pub item : ℕ
+
+abbrev pub reportOfVerdict : Verdict → VerdictReport
+reportOfVerdict v = record { number = reportNumber v; item = reportItem v }
 
 abbrev pub isRefused : Verdict → Bool
 isRefused Accepted = false

@@ -74,6 +74,8 @@ pub enum PlanItem {
 pub enum RoomItem {
     TextBuffer,
     SheetBuffer,
+    // rows of a listed table: item 0, as for the other operation with one buffer
+    RowBuffer,
     DataBuffer,
     AddressList,
 }
@@ -219,6 +221,7 @@ fn room_item(x: RoomItem) -> u64
     match x {
         RoomItem::TextBuffer => 0,
         RoomItem::SheetBuffer => 0,
+        RoomItem::RowBuffer => 0,
         RoomItem::DataBuffer => 1,
         RoomItem::AddressList => 2,
     }

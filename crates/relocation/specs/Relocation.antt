@@ -71,7 +71,7 @@ isHeld p e =
     cond (eqb (e .scnum) (p .text .number .0)) (isInside (p .text) e)
     (eqb (e .scnum) (p .«data» .number .0) && isInside (p .«data») e)
 
--- symbols 0, 1, 2 are text, data and bss; 3 is the first of the table's nsyms
+-- LREL, where not: type, width, section and field, and the symbol: 0, 1, 2 are text, data and bss, 3 is the first of the table's nsyms
 unfoldable pub isGood : Format → Parts → ℕ → RelocationEntry → Bool
 isGood f p nsyms e = isType (e .rtype % 256) && isWidth f (widthBits (e .rtype)) && isHeld p e && ltb (e .symbol) (3 + nsyms)
 

@@ -1,9 +1,10 @@
 -- The answers of builds, moves and plan sheets as C reads them.
 use Rattle.image.specs.Report.{CallReport}
-use Rattle.sheet.specs.Sheet.{SheetReport, VerdictReport}
+use Rattle.sheet.specs.Sheet.{SheetReport}
 use Rattle.report_image.specs.declared.CCall.{CCall}
 use Rattle.report_image.specs.declared.CSheet.{CSheet}
 use Rattle.report_image.specs.declared.CVerdict.{CVerdict}
+use Rattle.refusal.specs.Refusal.{VerdictReport}
 
 abbrev pub cCall : CallReport → CCall
 cCall r = record { number = r .number; item = r .item; hasentry = r .hasEntry; entry = r .entry; hastoc = r .hasToc; toc = r .toc }

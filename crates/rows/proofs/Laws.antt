@@ -12,8 +12,7 @@ use lib.ListN.{length, getD, drop, set, length-append, drop-of-length-le}
 use lib.Seq.{sets, length-sets, drop-cons}
 use Rattle.refusal.specs.declared.Verdict.the-variants.{Accepted}
 use Rattle.refusal.proofs.Order.{accepted-test}
-use Rattle.update.proofs.Stores.{sets-append}
-use Rattle.sheet.proofs.Addresses.{sets-whole}
+use Rattle.update.proofs.Stores.{sets-append, sets-whole}
 use Rattle.rows.specs.Rows.{rowsOf, roomCheck}
 
 -- memory that is accepted has exactly the room

@@ -4,7 +4,7 @@ use mathlib.Core.Bool.{not}
 use mathlib.Core.List.{List, [], _++_}
 use lib.Dec.{eqb}
 use Rattle.refusal.specs.declared.Refusal.the-variants.{Room}
-use Rattle.refusal.specs.declared.RoomItem.the-variants.{SheetBuffer}
+use Rattle.refusal.specs.declared.RoomItem.the-variants.{RowBuffer}
 use Rattle.refusal.specs.declared.Verdict.{Verdict}
 use Rattle.refusal.specs.Order.{refuseIf}
 
@@ -15,4 +15,4 @@ rowsOf row i (suc n) = row i ++ rowsOf row (suc i) n
 
 -- ROOM 0: the lent memory is not exactly as long as the rows. The cause is that of a sheet's buffer, the other operation that writes one buffer
 unfoldable pub roomCheck : ℕ → ℕ → Verdict
-roomCheck given needed = refuseIf (not (eqb given needed)) (Room SheetBuffer)
+roomCheck given needed = refuseIf (not (eqb given needed)) (Room RowBuffer)

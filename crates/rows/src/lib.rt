@@ -27,5 +27,5 @@ pub fn check_room(given: u64, needed: u64) -> Verdict
     if given == needed {
         return Verdict::Accepted;
     }
-    Verdict::Refused(Refusal::Room(RoomItem::SheetBuffer))
+    Verdict::Refused(Refusal::Room(RoomItem::RowBuffer))
 }

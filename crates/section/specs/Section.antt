@@ -56,6 +56,7 @@ sectionOf k h =
       raw = hasRawData k h;
     }
 
+-- KIND, BOUNDS, ADDRESS
 unfoldable pub judgeKind : Format → ℕ → SectionHeader → SectionNumber → KindAnswer → SectionAnswer
 judgeKind f len h n NotAllowed = Refused (Kind n)
 judgeKind f len h n (Allowed k) =

@@ -18,8 +18,8 @@ use Rattle.refusal.specs.declared.Refusal.{Refusal}
 use Rattle.refusal.specs.declared.RangeAnswer.the-variants as range
 use Rattle.refusal.specs.declared.Verdict.{Verdict}
 use Rattle.refusal.specs.declared.Verdict.the-variants as verdict
-use Rattle.refusal.specs.Order.{_orElse_}
-use Rattle.refusal.specs.Part.{rangeBy, Within}
+use Rattle.refusal.specs.Order.{_orElse_, byVerdict}
+use Rattle.refusal.specs.Part.{Within}
 use Rattle.refusal.proofs.Order.{accepted-first, accepted-rest, accepted-test}
 use Rattle.section.specs.declared.SectionAnswer.{SectionAnswer}
 use Rattle.section.specs.declared.SectionAnswer.the-variants.{Found, Refused}
@@ -90,7 +90,7 @@ module _ (file : List ℕ) (n : SectionNumber) where
   name-found e k q = rw (q, ← e, k)
 
   -- the name lies in the file
-  name-in : (v : Verdict) → lookupCheck file n ≡ v → Within (length file) (rangeBy v (nameOf file (openOf file .summary) n))
+  name-in : (v : Verdict) → lookupCheck file n ≡ v → Within (length file) (byVerdict v (range.Found (nameOf file (openOf file .summary) n)) range.Refused)
   unfolding nameOf
   name-in (verdict.Refused x) e = tt
   name-in verdict.Accepted e =

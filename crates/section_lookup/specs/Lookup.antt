@@ -13,8 +13,8 @@ use Rattle.refusal.specs.declared.Refusal.the-variants.{Index}
 use Rattle.refusal.specs.declared.IndexItem.the-variants.{NoSection}
 use Rattle.refusal.specs.declared.Verdict.{Verdict}
 use Rattle.refusal.specs.declared.Verdict.the-variants as verdict
-use Rattle.refusal.specs.Order.{_orElse_, refuseIf}
-use Rattle.refusal.specs.Part.{rangeBy}
+use Rattle.refusal.specs.Order.{_orElse_, refuseIf, byVerdict}
+use Rattle.refusal.specs.declared.RangeAnswer.the-variants as range
 use Rattle.refusal.specs.Refusal.{reportNumber, reportItem}
 use Rattle.section.specs.declared.Section.{Section}
 use Rattle.section.specs.declared.SectionAnswer.{SectionAnswer}
@@ -24,27 +24,23 @@ use Rattle.header.specs.Header.{sectionStart}
 use Rattle.header.specs.Tables.{blankSection, verdictOf, recordOf}
 use Rattle.header.specs.Open.{openOf}
 
--- sections are numbered from one
+-- INDEX: sections are numbered from one
 unfoldable pub numberCheck : ℕ → SectionNumber → Verdict
 numberCheck count n = refuseIf (eqb (n .0) 0 || ltb count (n .0)) (Index (NoSection n))
 
 unfoldable pub lookupCheck : List ℕ → SectionNumber → Verdict
 lookupCheck file n = openOf file .verdict orElse numberCheck (openOf file .summary .count) n
 
-abbrev pub sectionBy : Verdict → Section → SectionAnswer
-sectionBy verdict.Accepted s = Found s
-sectionBy (verdict.Refused x) s = Refused x
-
 -- the record of section n
 unfoldable pub sectionAt : List ℕ → SectionNumber → SectionAnswer
-sectionAt file n = sectionBy (lookupCheck file n) (getD (openOf file .summary .sections) (n .0 - 1) blankSection)
+sectionAt file n = byVerdict (lookupCheck file n) (Found (getD (openOf file .summary .sections) (n .0 - 1) blankSection)) Refused
 
 -- where the name of section n lies: the 8 bytes of its header up to the first zero
 unfoldable pub nameOf : List ℕ → Summary → SectionNumber → FileRange
 nameOf file y n = textIn (sectionLayout (y .format) .name) (sectionStart (y .format) (y .opthdr) (n .0 - 1)) file
 
 unfoldable pub sectionNameAt : List ℕ → SectionNumber → RangeAnswer
-sectionNameAt file n = rangeBy (lookupCheck file n) (nameOf file (openOf file .summary) n)
+sectionNameAt file n = byVerdict (lookupCheck file n) (range.Found (nameOf file (openOf file .summary) n)) range.Refused
 
 -- document 01's number (0: accepted), item and values of the answer
 pub record SectionReport : Type 0 where

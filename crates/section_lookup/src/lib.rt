@@ -13,7 +13,7 @@ use section::Section;
 use section::SectionAnswer;
 
 // Opening's refusal, or INDEX where the file has no section `n`.
-pub fn check_number(v: Verdict, count: u64, n: SectionNumber) -> Verdict
+fn check_number(v: Verdict, count: u64, n: SectionNumber) -> Verdict
     ensures { λ r. ⌜ r ≡ (v orElse numberCheck count n) ⌝ }
 {
     if refusal::refuses(v) {

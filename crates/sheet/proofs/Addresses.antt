@@ -1,16 +1,16 @@
 -- Laws of the addresses of a sheet as a list and as bytes, and of the loops that read and write them. Assumes nothing.
 use mathlib.Core.Path.{_≡_, refl, sym, _∙_, ap}
-use mathlib.Core.List.{List, [], _∷_, _++_, append-nil}
+use mathlib.Core.List.{List, [], _∷_, _++_}
 use Prim.Native.Nat.{ℕ, zero, suc, _+_, _-_, _*_, _<_, _≤_, _^_}
 use native.Mathlib.Nat.{zero-add, mod-eq-of-lt}
 use native.Mathlib.Numerals.{add-one}
 use native.Mathlib.Omega.{arith}
 use lib.ListN.{length, getD, take, drop, set, length-append, take-append-drop, drop-of-length-le}
-use lib.Seq.{sets, sets-eq, take-at, drop-append-add, drop-drop, drop-cons}
+use lib.Seq.{sets, take-at, drop-append-add, drop-drop, drop-cons}
 use Rattle.word.specs.Number.{valueOf, fieldAt}
 use Rattle.update.specs.Update.{bytesOfNumber, putField, Bytes}
 use Rattle.update.proofs.Laws.{length-bytes, value-bytes, put-field}
-use Rattle.update.proofs.Stores.{sets-append, part-stored}
+use Rattle.update.proofs.Stores.{sets-append, part-stored, sets-whole}
 use Rattle.sheet.specs.Sheet.{headLength, sheetLength, numbersFrom, addressBytes, sheetBytes}
 
 -- ---- lengths
@@ -35,11 +35,6 @@ length-sheet w text dat list =
     simp (length-append, length-bytes, length-addresses) (omega arith)
 
 -- ---- the loops
-
--- stores to every place of a list leave what was stored
-pub sets-whole : (l vs : List ℕ) → length vs ≡ length l → sets l 0 vs ≡ vs
-sets-whole l vs e =
-    sets-eq vs l 0 (omega arith) ∙ ap (λ (x : List ℕ). vs ++ x) (drop-of-length-le l {i = 0 + length vs} (omega arith)) ∙ append-nil vs
 
 -- one address read more
 pub fill-next : (s l : List ℕ) (off i n v : ℕ) → i < n → v ≡ fieldAt 8 (off + i * 8) s → sets (set l i v) (i + 1) (numbersFrom s (off + (i + 1) * 8) (n - (i + 1))) ≡ sets l i (numbersFrom s (off + i * 8) (n - i))

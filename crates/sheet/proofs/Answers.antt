@@ -14,23 +14,17 @@ use Rattle.refusal.specs.declared.Refusal.the-variants as refusal
 use Rattle.refusal.specs.declared.RoomItem.the-variants.{SheetBuffer}
 use Rattle.refusal.specs.declared.Verdict.{Verdict}
 use Rattle.refusal.specs.declared.Verdict.the-variants as verdict
-use Rattle.refusal.specs.Order.{_orElse_, refuseIf}
-use Rattle.refusal.specs.Refusal.{isRefused}
-use Rattle.refusal.proofs.Order.{accepts, accepted-first, accepted-rest, accepted-test}
+use Rattle.refusal.specs.Order.{_orElse_, refuseIf, byVerdict, ifAccepted}
+use Rattle.refusal.specs.Refusal.{isRefused, reportOfVerdict}
+use Rattle.refusal.proofs.Order.{accepts, accepted-first, accepted-rest, accepted-test, accepted-equal, accepted-most}
 use Rattle.sheet.specs.declared.SheetAnswer.{SheetAnswer}
 use Rattle.sheet.specs.declared.SheetAnswer.the-variants.{Found, Refused}
 use Rattle.sheet.specs.declared.SheetHead.{SheetHead}
-use Rattle.sheet.specs.Sheet.{sheetListLimit, headLength, sheetLength, firstCount, headOf, numbersFrom, addressesOf, addressBytes, sheetCheck, roomCheck, readCheck, sheetBy, headAnswer, readAnswer, leaves, readList, sheetBytes, writeCheck, writeSheet, reportOfSheet, reportOfVerdict}
+use Rattle.sheet.specs.Sheet.{headLength, sheetLength, firstCount, headOf, numbersFrom, addressesOf, addressBytes, sheetCheck, roomCheck, readCheck, headAnswer, readAnswer, readList, sheetBytes, writeCheck, writeSheet, reportOfSheet}
 use Rattle.sheet.proofs.Addresses.{sheet-written}
+use Rattle.format.specs.Limit.{sheetListLimit}
 
 -- ---- what an accepted sheet has
-
--- what a test that was passed tells: two numbers are equal, or one is at most another
-passed-equal : (a b : ℕ) (x : Refusal) → refuseIf (not (eqb a b)) x ≡ verdict.Accepted → a ≡ b
-passed-equal a b x e = eqb-true a b (not-false (eqb a b) (accepted-test (not (eqb a b)) x e))
-
-passed-most : (a b : ℕ) (x : Refusal) → refuseIf (ltb a b) x ≡ verdict.Accepted → b ≤ a
-passed-most a b x e = ltb-false a b (accepted-test (ltb a b) x e)
 
 module _ (w : ℕ) (s : List ℕ) (e : sheetCheck w s ≡ verdict.Accepted) where
   -- what is left to accept after the head's length, and after the first count
@@ -43,18 +37,18 @@ module _ (w : ℕ) (s : List ℕ) (e : sheetCheck w s ≡ verdict.Accepted) wher
 
   -- its first count is 2
   pub first-two : firstCount w s ≡ 2
-  first-two = passed-equal (firstCount w s) 2 refusal.Sheet (accepted-first (refuseIf (not (eqb (firstCount w s) 2)) refusal.Sheet) _ after-length)
+  first-two = accepted-equal (firstCount w s) 2 refusal.Sheet (accepted-first (refuseIf (not (eqb (firstCount w s) 2)) refusal.Sheet) _ after-length)
 
   -- its list passes no limit
   pub few-addresses : headOf w s .count ≤ sheetListLimit
   few-addresses =
-      passed-most sheetListLimit (headOf w s .count) (refusal.Limit SheetList)
+      accepted-most sheetListLimit (headOf w s .count) (refusal.Limit SheetList)
       (accepted-first (refuseIf (ltb sheetListLimit (headOf w s .count)) (refusal.Limit SheetList)) _ after-first)
 
   -- it has its head and its addresses, and nothing after them
   pub whole-length : length s ≡ sheetLength w (headOf w s .count)
   whole-length =
-      passed-equal (length s) (sheetLength w (headOf w s .count)) refusal.Sheet
+      accepted-equal (length s) (sheetLength w (headOf w s .count)) refusal.Sheet
       (accepted-rest (refuseIf (ltb sheetListLimit (headOf w s .count)) (refusal.Limit SheetList)) _ after-first)
 
 -- ---- the answers
@@ -85,17 +79,17 @@ module _ (w : ℕ) (s : List ℕ) {v : Verdict} (e : v ≡ sheetCheck w s) where
   head-refused k = rw (← e, k) refl
 
   -- a well-formed sheet is read by the places of the list
-  pub read-by : {h : SheetHead} {r : SheetAnswer} (l l′ : List ℕ) → v ≡ verdict.Accepted → h ≡ headOf w s → r ≡ sheetBy (roomCheck (length l) h) h → l′ ≡ leaves (roomCheck (length l) h) (numbersFrom s (headLength w) (h .count)) l → Reads w s l r l′
+  pub read-by : {h : SheetHead} {r : SheetAnswer} (l l′ : List ℕ) → v ≡ verdict.Accepted → h ≡ headOf w s → r ≡ byVerdict (roomCheck (length l) h) (Found h) Refused → l′ ≡ ifAccepted (roomCheck (length l) h) (numbersFrom s (headLength w) (h .count)) l → Reads w s l r l′
   unfolding readAnswer readList readCheck addressesOf
   read-by {h} {r} l l′ k q a b =
-      let c : r ≡ sheetBy (sheetCheck w s orElse roomCheck (length l) (headOf w s)) (headOf w s) = rw (← e, k, ← q) a in
+      let c : r ≡ byVerdict (sheetCheck w s orElse roomCheck (length l) (headOf w s)) (Found (headOf w s)) Refused = rw (← e, k, ← q) a in
       (c, (ap reportOfSheet c, rw (← e, k, ← q) b))
 
   -- a malformed one is not, and the list is as it was
   pub read-refused : {x : Refusal} (l : List ℕ) → v ≡ verdict.Refused x → Reads w s l (Refused x) l
   unfolding readAnswer readList readCheck
   read-refused {x} l k =
-      let c : Refused x ≡ sheetBy (sheetCheck w s orElse roomCheck (length l) (headOf w s)) (headOf w s) = rw (← e, k) refl in
+      let c : Refused x ≡ byVerdict (sheetCheck w s orElse roomCheck (length l) (headOf w s)) (Found (headOf w s)) Refused = rw (← e, k) refl in
       (c, (ap reportOfSheet c, rw (← e, k) refl))
 
 -- a writing that is accepted: the list passes no limit, and the sheet has exactly the room
@@ -103,8 +97,8 @@ pub room-enough : (w : ℕ) (list sheet : List ℕ) {v : Verdict} → v ≡ writ
 unfolding writeCheck
 room-enough w list sheet {v} e k =
     let c = sym e ∙ accepts v k in (
-      passed-most sheetListLimit (length list) (refusal.Limit SheetList) (accepted-first (refuseIf (ltb sheetListLimit (length list)) (refusal.Limit SheetList)) _ c),
-      passed-equal (length sheet) (sheetLength w (length list)) (refusal.Room SheetBuffer) (accepted-rest (refuseIf (ltb sheetListLimit (length list)) (refusal.Limit SheetList)) _ c),
+      accepted-most sheetListLimit (length list) (refusal.Limit SheetList) (accepted-first (refuseIf (ltb sheetListLimit (length list)) (refusal.Limit SheetList)) _ c),
+      accepted-equal (length sheet) (sheetLength w (length list)) (refusal.Room SheetBuffer) (accepted-rest (refuseIf (ltb sheetListLimit (length list)) (refusal.Limit SheetList)) _ c),
     )
 
 -- the answers by the check of a writing
@@ -121,6 +115,6 @@ module _ (w text dat : ℕ) (list sheet : List ℕ) {v : Verdict} (e : v ≡ wri
   unfolding writeSheet
   unwritten k = (e, (ap reportOfVerdict e, rw (← e) (as-before v k)))
     where
-      as-before : (u : Verdict) → isRefused u ≡ true → sheet ≡ leaves u (sheetBytes w text dat list) sheet
+      as-before : (u : Verdict) → isRefused u ≡ true → sheet ≡ ifAccepted u (sheetBytes w text dat list) sheet
       as-before verdict.Accepted r = cc
       as-before (verdict.Refused x) r = refl

@@ -9,14 +9,13 @@ use lib.ListN.{length, getD, drop}
 use Rattle.word.specs.Number.{fieldAt}
 use Rattle.update.specs.Update.{bytesOfNumber, Bytes}
 use Rattle.refusal.specs.declared.Verdict.the-variants.{Accepted}
-use Rattle.sheet.specs.declared.SheetHead.{SheetHead}
-use Rattle.sheet.specs.Sheet.{sheetListLimit, headLength, sheetLength, firstCount, headOf, numbersFrom, addressesOf, sheetCheck, readCheck, addressBytes, sheetBytes, writeCheck}
+use Rattle.sheet.specs.Sheet.{headLength, sheetLength, firstCount, headOf, numbersFrom, addressesOf, sheetCheck, readCheck, addressBytes, sheetBytes, writeCheck, headBy, readAnswer, readList, writeSheet}
 use Rattle.sheet.proofs.Addresses.{length-numbers, length-sheet, field-first, field-later, numbers-later, numbers-addresses, bytes-then, addresses-numbers}
-use Rattle.sheet.proofs.Answers.{first-two, few-addresses, whole-length}
-
--- the head of a plan's sheet
-abbrev pub headBy : ℕ → ℕ → ℕ → SheetHead
-headBy text dat k = record { text = record { 0 = text }; «data» = record { 0 = dat }; count = k }
+use Rattle.sheet.proofs.Answers.{first-two, few-addresses, whole-length, room-enough}
+use Rattle.format.specs.Limit.{sheetListLimit}
+use Rattle.sheet.specs.declared.SheetAnswer.the-variants.{Found}
+use Rattle.refusal.specs.Refusal.{isRefused}
+use Rattle.refusal.proofs.Order.{accepted-first}
 
 -- ---- writing, then reading
 
@@ -61,10 +60,15 @@ module _ (w text dat : ℕ) (list : List ℕ) (wide : sheetListLimit < 256 ^ w) 
       let k : ℕ = length list in
       rw (written-first, written-head, length-sheet w text dat list, le-ltb (sheetLength w k) (headLength w) (omega arith), le-ltb sheetListLimit k n, eq-eqb (sheetLength w k) (sheetLength w k) refl, eq-eqb k k refl) refl
 
--- A plan sheet that was written reads back as the same plan: reading accepts it, and finds the text and data addresses and every address of the list.
-pub written-reads-back : (w text dat : ℕ) (list : List ℕ) → sheetListLimit < 256 ^ w → text < 2 ^ 64 → dat < 2 ^ 64 → ((k : ℕ) → getD list k 0 < 2 ^ 64) → length list ≤ sheetListLimit → (readCheck w (sheetBytes w text dat list) (length list) ≡ Accepted) × (headOf w (sheetBytes w text dat list) ≡ headBy text dat (length list)) × (addressesOf w (sheetBytes w text dat list) ≡ list)
-written-reads-back w text dat list wide t d h n =
-    (written-accepted w text dat list wide t d n, written-head w text dat list wide t d n, written-addresses w text dat list wide t d n h)
+-- "A plan sheet that was written reads back as the same plan": a sheet that writing left in any buffer is accepted by reading, which gives the text and data addresses, and
+-- leaves in any list of that many places every address of the list.
+pub written-reads-back : (w text dat : ℕ) (list sheet list′ : List ℕ) → sheetListLimit < 256 ^ w → text < 2 ^ 64 → dat < 2 ^ 64 → ((k : ℕ) → getD list k 0 < 2 ^ 64)
+    → writeCheck w (length list) (length sheet) ≡ Accepted → length list′ ≡ length list
+    → (readAnswer w (writeSheet w text dat list sheet) (length list′) ≡ Found (headBy text dat (length list))) × (readList w (writeSheet w text dat list sheet) list′ ≡ list)
+unfolding writeSheet readAnswer readList
+written-reads-back w text dat list sheet list′ wide t d h e n =
+    let few : length list ≤ sheetListLimit = room-enough w list sheet refl (ap isRefused e) .0 in
+    (rw (e, n, written-accepted w text dat list wide t d few, written-head w text dat list wide t d few) refl, rw (e, n, written-accepted w text dat list wide t d few) (written-addresses w text dat list wide t d few h))
 
 -- ---- reading, then writing
 
@@ -98,6 +102,10 @@ module _ (w : ℕ) (s : List ℕ) (b : Bytes s) (e : sheetCheck w s ≡ Accepted
       let k : ℕ = headOf w s .count in
       rw (length-list, whole-length w s e, le-ltb sheetListLimit k (few-addresses w s e), eq-eqb (sheetLength w k) (sheetLength w k) refl) refl
 
--- A sheet that was read writes back as the same bytes, into a buffer of its own length.
-pub read-writes-back : (w : ℕ) (s : List ℕ) → Bytes s → sheetCheck w s ≡ Accepted → (sheetBytes w (headOf w s .text .0) (headOf w s .«data» .0) (addressesOf w s) ≡ s) × (writeCheck w (length (addressesOf w s)) (length s) ≡ Accepted)
-read-writes-back w s b e = (read-bytes w s b e, read-length w s b e)
+-- "a sheet that was read writes back as the same bytes": what reading gave and left in a list, written into any buffer of the sheet's length, is accepted and leaves the sheet.
+pub read-writes-back : (w : ℕ) (s list sheet : List ℕ) → Bytes s → readCheck w s (length list) ≡ Accepted → length sheet ≡ length s
+    → (writeCheck w (length (readList w s list)) (length sheet) ≡ Accepted) × (writeSheet w (headOf w s .text .0) (headOf w s .«data» .0) (readList w s list) sheet ≡ s)
+unfolding readCheck readList writeSheet
+read-writes-back w s list sheet b e n =
+    let c = accepted-first (sheetCheck w s) _ e in
+    (rw (e, n) (read-length w s b c), rw (e, n, read-length w s b c) (read-bytes w s b c))

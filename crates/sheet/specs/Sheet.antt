@@ -11,15 +11,12 @@ use Rattle.refusal.specs.declared.Refusal.the-variants as refusal
 use Rattle.refusal.specs.declared.RoomItem.the-variants.{SheetBuffer, AddressList}
 use Rattle.refusal.specs.declared.Verdict.{Verdict}
 use Rattle.refusal.specs.declared.Verdict.the-variants as verdict
-use Rattle.refusal.specs.Order.{_orElse_, refuseIf}
+use Rattle.refusal.specs.Order.{_orElse_, refuseIf, byVerdict, ifAccepted}
 use Rattle.refusal.specs.Refusal.{reportNumber, reportItem}
 use Rattle.sheet.specs.declared.SheetAnswer.{SheetAnswer}
 use Rattle.sheet.specs.declared.SheetAnswer.the-variants.{Found, Refused}
 use Rattle.sheet.specs.declared.SheetHead.{SheetHead}
-
--- the sheet's list has at most this many addresses
-abbrev pub sheetListLimit : ℕ
-sheetListLimit = 4096
+use Rattle.format.specs.Limit.{sheetListLimit}
 
 -- the bytes before the list
 abbrev pub headLength : ℕ → ℕ
@@ -32,9 +29,11 @@ sheetLength w k = headLength w + k * 8
 abbrev pub firstCount : ℕ → List ℕ → ℕ
 firstCount w s = fieldAt w 0 s
 
+abbrev pub headBy : ℕ → ℕ → ℕ → SheetHead
+headBy text dat k = record { text = record { 0 = text }; «data» = record { 0 = dat }; count = k }
+
 unfoldable pub headOf : ℕ → List ℕ → SheetHead
-headOf w s =
-    record { text = record { 0 = fieldAt 8 w s }; «data» = record { 0 = fieldAt 8 (w + 8) s }; count = fieldAt w (w + 8 + 8) s }
+headOf w s = headBy (fieldAt 8 w s) (fieldAt 8 (w + 8) s) (fieldAt w (w + 8 + 8) s)
 
 -- n numbers of 8 bytes from off
 unfoldable pub numbersFrom : List ℕ → ℕ → ℕ → List ℕ
@@ -60,26 +59,17 @@ roomCheck places h = refuseIf (not (eqb places (h .count))) (refusal.Room Addres
 unfoldable pub readCheck : ℕ → List ℕ → ℕ → Verdict
 readCheck w s places = sheetCheck w s orElse roomCheck places (headOf w s)
 
-abbrev pub sheetBy : Verdict → SheetHead → SheetAnswer
-sheetBy verdict.Accepted h = Found h
-sheetBy (verdict.Refused x) h = Refused x
-
 -- what a sheet says of itself: its addresses and how many places its list needs
 unfoldable pub headAnswer : ℕ → List ℕ → SheetAnswer
-headAnswer w s = sheetBy (sheetCheck w s) (headOf w s)
+headAnswer w s = byVerdict (sheetCheck w s) (Found (headOf w s)) Refused
 
 -- what reading answers
 unfoldable pub readAnswer : ℕ → List ℕ → ℕ → SheetAnswer
-readAnswer w s places = sheetBy (readCheck w s places) (headOf w s)
-
--- what the check accepts leaves `done` behind; a refusal what was there
-abbrev pub leaves : Verdict → List ℕ → List ℕ → List ℕ
-leaves verdict.Accepted done before = done
-leaves (verdict.Refused x) done before = before
+readAnswer w s places = byVerdict (readCheck w s places) (Found (headOf w s)) Refused
 
 -- what reading leaves in the lent list
 unfoldable pub readList : ℕ → List ℕ → List ℕ → List ℕ
-readList w s list = leaves (readCheck w s (length list)) (addressesOf w s) list
+readList w s list = ifAccepted (readCheck w s (length list)) (addressesOf w s) list
 
 -- the bytes of a list's addresses
 unfoldable pub addressBytes : List ℕ → List ℕ
@@ -98,7 +88,7 @@ writeCheck w k room =
 
 -- what writing leaves in the lent sheet
 unfoldable pub writeSheet : ℕ → ℕ → ℕ → List ℕ → List ℕ → List ℕ
-writeSheet w text dat list sheet = leaves (writeCheck w (length list) (length sheet)) (sheetBytes w text dat list) sheet
+writeSheet w text dat list sheet = ifAccepted (writeCheck w (length list) (length sheet)) (sheetBytes w text dat list) sheet
 
 -- document 01's number (0: accepted), item and values of the answer
 pub record SheetReport : Type 0 where
@@ -112,10 +102,3 @@ abbrev pub reportOfSheet : SheetAnswer → SheetReport
 reportOfSheet (Found h) = record { number = 0; item = 0; text = h .text .0; dat = h .«data» .0; count = h .count }
 reportOfSheet (Refused x) =
     record { number = reportNumber (verdict.Refused x); item = reportItem (verdict.Refused x); text = 0; dat = 0; count = 0 }
-
-pub record VerdictReport : Type 0 where
-  pub number : ℕ
-  pub item : ℕ
-
-abbrev pub reportOfVerdict : Verdict → VerdictReport
-reportOfVerdict v = record { number = reportNumber v; item = reportItem v }

@@ -4,15 +4,15 @@ ghost use Prim.Native.Nat.{_≤_};
 ghost use lib.ListN.{length};
 ghost use lib.Seq.{sets};
 ghost use Rattle.update.specs.Update.{putField};
-ghost use Rattle.sheet.specs.Sheet.{sheetListLimit, headLength, sheetLength, headOf, numbersFrom, sheetCheck, roomCheck, sheetBy, leaves, headAnswer, readAnswer, readList, addressBytes, writeCheck, writeSheet, reportOfSheet, reportOfVerdict};
+ghost use Rattle.format.specs.Limit.{sheetListLimit};
+ghost use Rattle.refusal.specs.Order.{byVerdict, ifAccepted};
+ghost use Rattle.sheet.specs.Sheet.{headLength, sheetLength, headOf, numbersFrom, sheetCheck, roomCheck, headAnswer, readAnswer, readList, addressBytes, writeCheck, writeSheet, reportOfSheet};
+ghost use Rattle.refusal.specs.Refusal.{reportOfVerdict};
 use format::VirtualAddress;
 use refusal::LimitItem;
 use refusal::Refusal;
 use refusal::RoomItem;
 use refusal::Verdict;
-
-// The most addresses that a sheet's list has.
-pub const SHEET_LIST_LIMIT: u64 = 4096;
 
 // A sheet's text and data addresses, and how many addresses its list has.
 pub struct SheetHead {
@@ -60,7 +60,7 @@ fn check_sheet(sheet: &[u8]) -> Verdict
         return Verdict::Refused(Refusal::Sheet);
     }
     let head = read_head(sheet);
-    if SHEET_LIST_LIMIT < head.count {
+    if format::SHEET_LIST_LIMIT < head.count {
         return Verdict::Refused(Refusal::Limit(LimitItem::SheetList));
     }
     if sheet.len() as u64 != sheet_length(head.count) {
@@ -96,8 +96,8 @@ fn fill_list(sheet: &[u8], list: &mut [u64])
 // ROOM 2, or the list filled.
 fn read_list(sheet: &[u8], head: SheetHead, list: &mut [u64]) -> SheetAnswer
     requires { ⌜ sheetLength 2 (head .count) ≤ length (now sheet) ⌝ }
-    ensures answer { λ r. ⌜ r ≡ sheetBy (roomCheck (length (now (list .entry))) head) head ⌝ }
-    ensures list { λ _. ⌜ now (list .exit) ≡ leaves (roomCheck (length (now (list .entry))) head) (numbersFrom (now (sheet .entry)) (headLength 2) (head .count)) (now (list .entry)) ⌝ }
+    ensures answer { λ r. ⌜ r ≡ byVerdict (roomCheck (length (now (list .entry))) head) (SheetAnswer.Found head) SheetAnswer.Refused ⌝ }
+    ensures list { λ _. ⌜ now (list .exit) ≡ ifAccepted (roomCheck (length (now (list .entry))) head) (numbersFrom (now (sheet .entry)) (headLength 2) (head .count)) (now (list .entry)) ⌝ }
 {
     if list.len() as u64 != head.count {
         return SheetAnswer::Refused(Refusal::Room(RoomItem::AddressList));
@@ -126,7 +126,7 @@ pub fn read_sheet(sheet: &[u8], list: &mut [u64]) -> SheetAnswer
 fn check_write(count: u64, room: u64) -> Verdict
     ensures { λ r. ⌜ r ≡ writeCheck 2 count room ⌝ }
 {
-    if SHEET_LIST_LIMIT < count {
+    if format::SHEET_LIST_LIMIT < count {
         return Verdict::Refused(Refusal::Limit(LimitItem::SheetList));
     }
     if room != sheet_length(count) {

@@ -16,14 +16,14 @@ use Rattle.refusal.specs.declared.Refusal.the-variants.{Index, Aux, Scnum}
 use Rattle.refusal.specs.declared.IndexItem.the-variants.{NoSymbol}
 use Rattle.refusal.specs.declared.Verdict.{Verdict}
 use Rattle.refusal.specs.declared.Verdict.the-variants as verdict
-use Rattle.refusal.specs.Order.{_orElse_}
+use Rattle.refusal.specs.Order.{_orElse_, byVerdict}
 use Rattle.refusal.proofs.Order.{test-passed, test-refused, accepted-first, accepted-rest, accepted-test}
 use Rattle.symbol.specs.declared.Tables.{Tables}
 use Rattle.symbol.specs.declared.SymbolEntry.{SymbolEntry}
 use Rattle.symbol.specs.declared.Symbol.{Symbol}
 use Rattle.symbol.specs.declared.SymbolAnswer.the-variants.{Found, Refused}
 use Rattle.symbol.specs.Entry.{TablesInside, entryStart, entryAt}
-use Rattle.symbol.specs.Symbol.{indexCheck, auxCheck, scnumCheck, nameCheck, symbolCheck, symbolOf, symbolBy, entryOf, symbolIn}
+use Rattle.symbol.specs.Symbol.{indexCheck, auxCheck, scnumCheck, nameCheck, symbolCheck, symbolOf, entryOf, symbolIn}
 
 -- ---- the checks in their order
 
@@ -66,7 +66,7 @@ module _ (file : List ℕ) (t : Tables) (i : SymbolIndex) where
   unfolding symbolIn symbolCheck indexCheck
   symbol-none h = rw (le-leb (t .count) (i .0) h)
 
-  pub symbol-judged : {e : SymbolEntry} {v : Verdict} → e ≡ entryAt (t .format) (entryStart t (i .0)) file → v ≡ symbolCheck file t i e → symbolBy v (symbolOf e) ≡ symbolIn file t i
+  pub symbol-judged : {e : SymbolEntry} {v : Verdict} → e ≡ entryAt (t .format) (entryStart t (i .0)) file → v ≡ symbolCheck file t i e → byVerdict v (Found (symbolOf e)) Refused ≡ symbolIn file t i
   unfolding symbolIn entryOf
   symbol-judged a b = rw (b, a)
 
@@ -75,7 +75,7 @@ module _ (file : List ℕ) (t : Tables) (i : SymbolIndex) where
   unfolding symbolIn symbolOf
   symbol-in-table {s} k = by-verdict (symbolCheck file t i (entryOf file t i)) refl k
     where
-      by-verdict : (v : Verdict) → symbolCheck file t i (entryOf file t i) ≡ v → symbolBy v (symbolOf (entryOf file t i)) ≡ Found s → i .0 + 1 + s .numaux ≤ t .count
+      by-verdict : (v : Verdict) → symbolCheck file t i (entryOf file t i) ≡ v → byVerdict v (Found (symbolOf (entryOf file t i))) Refused ≡ Found s → i .0 + 1 + s .numaux ≤ t .count
       by-verdict verdict.Accepted q e =
           let n : entryOf file t i .numaux ≡ s .numaux = cc in
           rw (← n) (auxiliaries-in file t i (entryOf file t i) q)

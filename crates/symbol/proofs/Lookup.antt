@@ -20,9 +20,10 @@ use Rattle.symbol.specs.declared.SymbolAnswer.the-variants.{Found, Refus
 use Rattle.format.specs.Name.{nameField}
 use Rattle.symbol.specs.Entry.{tablesOf, TablesInside, entryStart, entryAt}
 use Rattle.symbol.specs.Name.{nameIn}
-use Rattle.symbol.specs.Symbol.{entryOf, symbolIn, symbolBehind, symbolAt, nameBehind, symbolNameAt, reportOfSymbol, symbolReport}
+use Rattle.symbol.specs.Symbol.{entryOf, symbolIn, symbolAt, nameBehind, symbolNameAt, reportOfSymbol, symbolReport}
 use Rattle.symbol.proofs.Names.{NoZero, name-in-file, field-no-zero}
 use Rattle.symbol.proofs.Checks.{symbol-in-table}
+use Rattle.refusal.specs.Order.{byVerdict}
 
 -- the tables of an accepted file are in it
 pub tables-inside : (file : List ℕ) {o : Opened} {t : Tables} → o ≡ openOf file → o .verdict ≡ verdict.Accepted → t ≡ tablesOf (o .summary) → TablesInside file t
@@ -32,11 +33,11 @@ tables-inside file e k q =
 
 module _ (file : List ℕ) (i : SymbolIndex) where
   pub at-refused : {o : Opened} {x : Refusal} → o ≡ openOf file → o .verdict ≡ verdict.Refused x → Refused x ≡ symbolAt file i
-  unfolding symbolAt symbolBehind
+  unfolding symbolAt
   at-refused e k = rw (rw e at k)
 
   pub at-opened : {o : Opened} → o ≡ openOf file → o .verdict ≡ verdict.Accepted → symbolIn file (tablesOf (o .summary)) i ≡ symbolAt file i
-  unfolding symbolAt symbolBehind
+  unfolding symbolAt
   at-opened e k = rw (e, rw e at k)
 
   pub symbol-reported : {a : SymbolAnswer} → a ≡ symbolAt file i → (a ≡ symbolAt file i) × (reportOfSymbol a ≡ symbolReport file i)
@@ -44,10 +45,10 @@ module _ (file : List ℕ) (i : SymbolIndex) where
 
   -- where a symbol is found, the file is accepted and the entry is in its table
   accepted : {s : Symbol} → symbolAt file i ≡ Found s → openOf file .verdict ≡ verdict.Accepted
-  unfolding symbolAt symbolBehind
+  unfolding symbolAt
   accepted {s} k = by-verdict (openOf file .verdict) k
     where
-      by-verdict : (v : Verdict) → symbolBehind file (openOf file) i v ≡ Found s → v ≡ verdict.Accepted
+      by-verdict : (v : Verdict) → byVerdict v (symbolIn file (tablesOf (openOf file .summary)) i) Refused ≡ Found s → v ≡ verdict.Accepted
       by-verdict verdict.Accepted e = refl
       by-verdict (verdict.Refused x) e = cc
 

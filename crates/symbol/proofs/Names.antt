@@ -18,7 +18,7 @@ use Rattle.format.specs.declared.SymbolIndex.{SymbolIndex}
 use Rattle.format.specs.Layout.{symbolLayout}
 use Rattle.format.specs.Range.{range, bytesOf, textIn}
 use Rattle.format.proofs.Layouts.{symbol-inside}
-use Rattle.format.proofs.Ranges.{text-inside}
+use Rattle.format.proofs.Ranges.{text-inside, length-part}
 use Rattle.refusal.specs.declared.Refusal.the-variants.{Name}
 use Rattle.refusal.specs.declared.RangeAnswer.{RangeAnswer}
 use Rattle.refusal.specs.declared.RangeAnswer.the-variants.{Found, Refused}
@@ -51,9 +51,6 @@ rest-zero file r o e =
     let d : r .start .0 + r .length - (r .start .0 + o) ≡ r .length - o = omega arith in
     rw rest-of (rw d at e)
 
-length-bytes : (file : List ℕ) (r : FileRange) → r .start .0 + r .length ≤ length file → length (bytesOf file r) ≡ r .length
-length-bytes file r h = simp (length-take, length-drop) (omega arith)
-
 -- ---- a string by its offset
 
 module _ (file : List ℕ) (strings : FileRange) (o : ℕ) (i : SymbolIndex) where
@@ -75,12 +72,12 @@ module _ (file : List ℕ) (strings : FileRange) (o : ℕ) (i : SymbolIndex) whe
   -- the same by the place of the last zero
   module _ (inside : strings .start .0 + strings .length ≤ length file) {ends : ℕ} (z : ZeroEnd (bytesOf file strings) ends) where
     pub string-unended : ends ≤ o → Refused (Name i) ≡ stringIn file strings o i
-    string-unended h = string-open (rw (length-bytes file strings inside) at (zero-unknown (bytesOf file strings) ends o z h))
+    string-unended h = string-open (rw (length-part file strings inside) at (zero-unknown (bytesOf file strings) ends o z h))
 
     pub string-ended : 4 ≤ o → o < ends → Accepted ≡ verdictOf (stringIn file strings o i)
     string-ended low h =
         let w = z .within in
-        let n = length-bytes file strings inside in
+        let n = length-part file strings inside in
         ap verdictOf (string-found low (omega arith) (rw n at (zero-known (bytesOf file strings) ends o z h)))
 
 -- ---- where a name lies

@@ -18,7 +18,7 @@ use Rattle.symbol.specs.declared.WalkAnswer.{WalkAnswer}
 use Rattle.symbol.specs.declared.WalkAnswer.the-variants.{Ended, Refused}
 use Rattle.symbol.specs.Entry.{tablesOf}
 use Rattle.symbol.specs.Symbol.{symbolIn, symbolAt}
-use Rattle.symbol.specs.Walk.{endedAt, walkStep, walkFrom, walkIn, walkBehind, walkOf, reportOfWalk, walkReport}
+use Rattle.symbol.specs.Walk.{endedAt, walkStep, walkFrom, walkIn, walkOf, reportOfWalk, walkReport}
 use Rattle.symbol.proofs.Lookup.{at-opened}
 
 module _ (file : List ℕ) (t : Tables) where
@@ -77,11 +77,11 @@ walk-steps file e steps i n h =
 -- the answer
 module _ (file : List ℕ) {o : Opened} (e : o ≡ openOf file) where
   pub walk-refused : {x : Refusal} → o .verdict ≡ verdict.Refused x → Refused x ≡ walkOf file
-  unfolding walkOf walkBehind
+  unfolding walkOf
   walk-refused k = rw (rw e at k)
 
   pub walk-ended : o .verdict ≡ verdict.Accepted → Ended (walkIn file (tablesOf (o .summary))) ≡ walkOf file
-  unfolding walkOf walkBehind
+  unfolding walkOf
   walk-ended k = rw (e, rw e at k)
 
 pub walk-reported : (file : List ℕ) {a : WalkAnswer} → a ≡ walkOf file → (a ≡ walkOf file) × (reportOfWalk a ≡ walkReport file)

@@ -13,7 +13,7 @@ use Rattle.refusal.specs.declared.RangeAnswer.the-variants as range
 use Rattle.refusal.specs.declared.Verdict.{Verdict}
 use Rattle.refusal.specs.declared.Verdict.the-variants as verdict
 use Rattle.refusal.specs.Refusal.{numberOf, itemOf}
-use Rattle.refusal.specs.Order.{_orElse_, refuseIf}
+use Rattle.refusal.specs.Order.{_orElse_, refuseIf, byVerdict}
 use Rattle.header.specs.declared.Opened.{Opened}
 use Rattle.header.specs.Open.{openOf}
 use Rattle.symbol.specs.declared.Tables.{Tables}
@@ -38,11 +38,12 @@ auxCheck count i e = refuseIf (past (i .0 + 1) (e .numaux) count) (Aux i)
 unfoldable pub scnumCheck : ℕ → SymbolIndex → SymbolEntry → Verdict
 scnumCheck nscns i e = refuseIf (ltb nscns (e .scnum) && ltb (e .scnum) 0xFFFE) (Scnum i)
 
--- NAME: the name lies nowhere
+-- the verdict that an answer with a part of the file stands for
 abbrev pub verdictOf : RangeAnswer → Verdict
 verdictOf (range.Found r) = verdict.Accepted
 verdictOf (range.Refused x) = verdict.Refused x
 
+-- NAME: the name lies nowhere
 unfoldable pub nameCheck : List ℕ → Tables → SymbolIndex → SymbolEntry → Verdict
 nameCheck file t i e = verdictOf (nameIn file t i (e .name))
 
@@ -63,30 +64,23 @@ unfoldable pub symbolOf : SymbolEntry → Symbol
 symbolOf e =
     record { value = e .value; section = sectionIn (e .scnum); ntype = e .ntype; sclass = e .sclass; numaux = e .numaux }
 
-abbrev pub symbolBy : Verdict → Symbol → SymbolAnswer
-symbolBy verdict.Accepted s = Found s
-symbolBy (verdict.Refused x) s = Refused x
-
 -- the entry of an opened file at an index
 unfoldable pub entryOf : List ℕ → Tables → SymbolIndex → SymbolEntry
 entryOf file t i = entryAt (t .format) (entryStart t (i .0)) file
 
 unfoldable pub symbolIn : List ℕ → Tables → SymbolIndex → SymbolAnswer
-symbolIn file t i = symbolBy (symbolCheck file t i (entryOf file t i)) (symbolOf (entryOf file t i))
+symbolIn file t i = byVerdict (symbolCheck file t i (entryOf file t i)) (Found (symbolOf (entryOf file t i))) Refused
 
 -- opening's refusals come first
-unfoldable pub symbolBehind : List ℕ → Opened → SymbolIndex → Verdict → SymbolAnswer
-symbolBehind file o i (verdict.Refused x) = Refused x
-symbolBehind file o i verdict.Accepted = symbolIn file (tablesOf (o .summary)) i
-
 unfoldable pub symbolAt : List ℕ → SymbolIndex → SymbolAnswer
-symbolAt file i = symbolBehind file (openOf file) i (openOf file .verdict)
+symbolAt file i = byVerdict (openOf file .verdict) (symbolIn file (tablesOf (openOf file .summary)) i) Refused
 
 -- where the symbol's name lies; its refusals are those of the symbol
 unfoldable pub nameBehind : List ℕ → Opened → SymbolIndex → SymbolAnswer → RangeAnswer
 nameBehind file o i (Refused x) = range.Refused x
 nameBehind file o i (Found s) = nameIn file (tablesOf (o .summary)) i (entryOf file (tablesOf (o .summary)) i .name)
 
+-- a name looked up
 unfoldable pub symbolNameAt : List ℕ → SymbolIndex → RangeAnswer
 symbolNameAt file i = nameBehind file (openOf file) i (symbolAt file i)
 

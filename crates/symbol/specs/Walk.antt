@@ -16,6 +16,7 @@ use Rattle.symbol.specs.declared.WalkAnswer.{WalkAnswer}
 use Rattle.symbol.specs.declared.WalkAnswer.the-variants.{Ended, Refused}
 use Rattle.symbol.specs.Entry.{tablesOf}
 use Rattle.symbol.specs.Symbol.{symbolIn}
+use Rattle.refusal.specs.Order.{byVerdict}
 
 -- the walk ends at index i, n entries visited
 abbrev pub endedAt : ℕ → ℕ → Verdict → WalkEnd
@@ -37,12 +38,9 @@ walkFrom file t (suc steps) i n =
 unfoldable pub walkIn : List ℕ → Tables → WalkEnd
 walkIn file t = walkFrom file t (t .count) 0 0
 
-unfoldable pub walkBehind : List ℕ → Opened → Verdict → WalkAnswer
-walkBehind file o (verdict.Refused x) = Refused x
-walkBehind file o verdict.Accepted = Ended (walkIn file (tablesOf (o .summary)))
-
+-- opening's refusals come first
 unfoldable pub walkOf : List ℕ → WalkAnswer
-walkOf file = walkBehind file (openOf file) (openOf file .verdict)
+walkOf file = byVerdict (openOf file .verdict) (Ended (walkIn file (tablesOf (openOf file .summary)))) Refused
 
 -- document 01's number (0: the file is accepted), item and values of the answer; a walk that stops is an answer, and names its cause
 pub record WalkReport : Type 0 where

@@ -19,14 +19,14 @@ use Rattle.refusal.specs.declared.RangeAnswer.{RangeAnswer}
 use Rattle.refusal.specs.declared.RangeAnswer.the-variants as range-answer
 use Rattle.refusal.specs.declared.Verdict.{Verdict}
 use Rattle.refusal.specs.declared.Verdict.the-variants as verdict
-use Rattle.refusal.specs.Order.{_orElse_}
+use Rattle.refusal.specs.Order.{_orElse_, byVerdict}
 use Rattle.header.specs.Open.{openOf}
 use Rattle.symbol.specs.declared.Tables.{Tables}
 use Rattle.symbol.specs.declared.Symbol.{Symbol}
 use Rattle.symbol.specs.declared.SymbolAnswer.the-variants.{Found, Refused}
 use Rattle.symbol.specs.Entry.{tablesOf}
 use Rattle.symbol.specs.Name.{stringIn, nameIn}
-use Rattle.symbol.specs.Symbol.{verdictOf, indexCheck, auxCheck, scnumCheck, nameCheck, symbolCheck, symbolOf, symbolBy, entryOf, symbolIn, symbolBehind, symbolAt, nameBehind, symbolNameAt}
+use Rattle.symbol.specs.Symbol.{verdictOf, indexCheck, auxCheck, scnumCheck, nameCheck, symbolCheck, symbolOf, entryOf, symbolIn, symbolAt, nameBehind, symbolNameAt}
 use Rattle.symbol.proofs.Names.{rest-zero}
 use Rattle.symbol_table.specs.Row.{nameSpan, symbolSpan}
 
@@ -81,7 +81,7 @@ module _ (file : List ℕ) (t : Tables) (i : SymbolIndex) where
   unfolding symbolIn
   symbol-checked {s} k = by-verdict (symbolCheck file t i (entryOf file t i)) k
     where
-      by-verdict : (v : Verdict) → symbolBy v (symbolOf (entryOf file t i)) ≡ Found s → v ≡ verdict.Accepted
+      by-verdict : (v : Verdict) → byVerdict v (Found (symbolOf (entryOf file t i))) Refused ≡ Found s → v ≡ verdict.Accepted
       by-verdict verdict.Accepted e = refl
       by-verdict (verdict.Refused x) e = cc
 
@@ -96,10 +96,10 @@ module _ (file : List ℕ) (t : Tables) (i : SymbolIndex) where
 
 -- a look-up that finds a symbol finds it in the tables of an accepted file
 symbol-in : (file : List ℕ) (i : SymbolIndex) {s : Symbol} → symbolAt file i ≡ Found s → symbolIn file (tablesOf (openOf file .summary)) i ≡ Found s
-unfolding symbolAt symbolBehind
+unfolding symbolAt
 symbol-in file i {s} k = by-verdict (openOf file .verdict) k
   where
-    by-verdict : (v : Verdict) → symbolBehind file (openOf file) i v ≡ Found s → symbolIn file (tablesOf (openOf file .summary)) i ≡ Found s
+    by-verdict : (v : Verdict) → byVerdict v (symbolIn file (tablesOf (openOf file .summary)) i) Refused ≡ Found s → symbolIn file (tablesOf (openOf file .summary)) i ≡ Found s
     by-verdict verdict.Accepted e = e
     by-verdict (verdict.Refused x) e = cc
 

@@ -23,15 +23,15 @@ use Rattle.symbol.specs.declared.WalkAnswer.{WalkAnswer}
 use Rattle.symbol.specs.declared.WalkAnswer.the-variants.{Ended, Refused}
 use Rattle.symbol.specs.Entry.{tablesOf}
 use Rattle.symbol.specs.Symbol.{symbolIn}
-use Rattle.symbol.specs.Walk.{endedAt, walkStep, walkFrom, walkIn, walkBehind, walkOf, reportOfWalk, walkReport}
+use Rattle.symbol.specs.Walk.{endedAt, walkStep, walkFrom, walkIn, walkOf, reportOfWalk, walkReport}
 use Rattle.symbol.proofs.Checks.{symbol-in-table}
 use Rattle.symbol.proofs.Steps.{walk-refused, walk-ended}
-use Rattle.update.proofs.Stores.{sets-append}
-use Rattle.sheet.proofs.Addresses.{sets-whole}
+use Rattle.update.proofs.Stores.{sets-append, sets-whole}
 use Rattle.rows.specs.Rows.{roomCheck}
 use Rattle.rows.proofs.Laws.{room-exact}
 use Rattle.symbol_table.specs.Row.{symbolRow}
-use Rattle.symbol_table.specs.Table.{rowsStep, rowsFrom, rowsBehind, symbolRows, roomBy, symbolTable, leftBy, symbolsAfter}
+use Rattle.symbol_table.specs.Table.{rowsStep, rowsFrom, symbolRows, roomBy, symbolTable, leftBy, symbolsAfter}
+use Rattle.refusal.specs.Order.{byVerdict, ifAccepted}
 
 pub row-length : (file : List ℕ) (i : ℕ) → length (symbolRow file i) ≡ 13
 unfolding symbolRow
@@ -174,18 +174,19 @@ module _ (file before : List ℕ) {o : Opened} (e : o ≡ openOf file) where
       (c, (ap reportOfWalk c, rw (← c) refl))
 
   pub table-listed : {t : Tables} {r : WalkAnswer} {after : List ℕ} → o .verdict ≡ verdict.Accepted → t ≡ tablesOf (o .summary) → r ≡ roomBy (length before) (Ended (walkIn file t)) → after ≡ leftBy r (rowsFrom file t (t .count) 0) before → Lists file before r after
-  unfolding symbolTable symbolsAfter symbolRows rowsBehind
+  unfolding symbolTable symbolsAfter symbolRows
   table-listed {t} {r} {after} k q p z =
       let c : r ≡ roomBy (length before) (walkOf file) = rw (← walk-ended file e k, ← q) p in
       (c, (ap reportOfWalk c, rw (← c, ← e, k) (rw q at z)))
 
 -- 13 numbers for each symbol that `walk` counts are exactly what the rows take: with them the answer is the walk's
 pub symbols-need : (file : List ℕ) → (symbolTable file (13 * walkReport file .visited) ≡ walkOf file) × (length (symbolRows file) ≡ 13 * walkReport file .visited)
-unfolding symbolTable walkOf symbolRows roomBy walkBehind rowsBehind roomCheck
+unfolding symbolTable walkOf symbolRows roomBy roomCheck
 symbols-need file = by-verdict (openOf file .verdict)
   where
-    by-verdict : (v : Verdict) → (roomBy (13 * reportOfWalk (walkBehind file (openOf file) v) .visited) (walkBehind file (openOf file) v) ≡ walkBehind file (openOf file) v) × (length (rowsBehind file (openOf file) v) ≡ 13 * reportOfWalk (walkBehind file (openOf file) v) .visited)
+    t : Tables
+    t = tablesOf (openOf file .summary)
+
+    by-verdict : (v : Verdict) → (let w : WalkAnswer = byVerdict v (Ended (walkIn file t)) Refused in (roomBy (13 * reportOfWalk w .visited) w ≡ w) × (length (ifAccepted v (rowsFrom file t (t .count) 0) []) ≡ 13 * reportOfWalk w .visited))
     by-verdict (verdict.Refused x) = (refl, refl)
-    by-verdict verdict.Accepted =
-        let t = tablesOf (openOf file .summary) in
-        (rw (eq-eqb (13 * walkIn file t .visited) (13 * walkIn file t .visited) refl) refl, sym (rows-length file t))
+    by-verdict verdict.Accepted = (rw (eq-eqb (13 * walkIn file t .visited) (13 * walkIn file t .visited) refl) refl, sym (rows-length file t))

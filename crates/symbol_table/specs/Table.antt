@@ -20,6 +20,7 @@ use Rattle.symbol.specs.Symbol.{symbolIn}
 use Rattle.symbol.specs.Walk.{walkOf}
 use Rattle.rows.specs.Rows.{roomCheck}
 use Rattle.symbol_table.specs.Row.{symbolRow}
+use Rattle.refusal.specs.Order.{byVerdict, ifAccepted}
 
 -- the rows of the symbols that the walk visits: a step as `walkStep` makes it
 unfoldable pub rowsStep : List ℕ → ℕ → (ℕ → List ℕ) → SymbolAnswer → List ℕ
@@ -32,21 +33,14 @@ rowsFrom file t zero i = []
 rowsFrom file t (suc steps) i =
     cond (leb (t .count) i) [] (rowsStep file i (rowsFrom file t steps) (symbolIn file t (record { 0 = i })))
 
-unfoldable pub rowsBehind : List ℕ → Opened → Verdict → List ℕ
-rowsBehind file o (verdict.Refused x) = []
-rowsBehind file o verdict.Accepted = rowsFrom file (tablesOf (o .summary)) (o .summary .symbols .count) 0
-
 unfoldable pub symbolRows : List ℕ → List ℕ
-symbolRows file = rowsBehind file (openOf file) (openOf file .verdict)
+symbolRows file =
+    ifAccepted (openOf file .verdict) (rowsFrom file (tablesOf (openOf file .summary)) (openOf file .summary .symbols .count) 0) []
 
 -- ROOM 0 behind the walk's answer: 13 numbers for each symbol that is visited
-abbrev pub endedBy : Verdict → WalkEnd → WalkAnswer
-endedBy verdict.Accepted w = Ended w
-endedBy (verdict.Refused x) w = Refused x
-
 unfoldable pub roomBy : ℕ → WalkAnswer → WalkAnswer
 roomBy given (Refused x) = Refused x
-roomBy given (Ended w) = endedBy (roomCheck given (13 * w .visited)) w
+roomBy given (Ended w) = byVerdict (roomCheck given (13 * w .visited)) (Ended w) Refused
 
 unfoldable pub symbolTable : List ℕ → ℕ → WalkAnswer
 symbolTable file given = roomBy given (walkOf file)

@@ -22,8 +22,10 @@ placesIn (suc n) v = cond (ltb v 10) 1 (suc (placesIn n (v / 10)))
 unfoldable pub places : ℕ → ℕ
 places v = placesIn v v
 
+-- v in decimal, without leading zeros
 unfoldable pub decimal : ℕ → List ℕ
 decimal v = digits 10 (places v) v
 
+-- v in k hex digits
 unfoldable pub hex : ℕ → ℕ → List ℕ
 hex k v = digits 16 k v

@@ -28,7 +28,7 @@ fn count_places(v: u64) -> usize
 }
 
 // Stores the last `count` digits of `v`, from the last to the first.
-pub fn put_digits(out: &mut [u8; 2048], at: usize, base: u64, count: usize, v: u64)
+fn put_digits(out: &mut [u8; 2048], at: usize, base: u64, count: usize, v: u64)
     requires { ⌜ (2 ≤ base) × (base ≤ 16) ⌝ }
     requires { ⌜ at + count ≤ 2048 ⌝ }
     ensures { λ _. ⌜ now (out .exit) ≡ sets (now (out .entry)) at (digits base count v) ⌝ }

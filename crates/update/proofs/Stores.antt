@@ -1,11 +1,11 @@
 -- Laws of a run of stores, `sets l i vs`: at the same place, at places apart, and read back. Assumes nothing.
 use mathlib.Core.Path.{_≡_, refl, sym, _∙_, ap}
 use mathlib.Core.Logic.{_⊎_, inl, inr, ⊎-elim}
-use mathlib.Core.List.{List, [], _∷_, _++_, append-assoc}
+use mathlib.Core.List.{List, [], _∷_, _++_, append-assoc, append-nil}
 use Prim.Native.Nat.{ℕ, zero, suc, _+_, _-_, _<_, _≤_}
 use native.Mathlib.Nat.{add-suc, suc-add, zero-add, add-zero}
 use native.Mathlib.Omega.{arith}
-use lib.ListN.{length, getD, take, drop, set, List·getD-append}
+use lib.ListN.{length, getD, take, drop, set, List·getD-append, drop-of-length-le}
 use lib.Seq.{sets, sets-eq, set-comm, set-set, getD-set-other, drop-set-lt, take-set-le, drop-at, take-at, take-nil, length-take-le, getD-append-add}
 use Rattle.update.specs.Update.{Apart}
 
@@ -91,3 +91,8 @@ module _ {A : Type 0} where
       ∙ ap (λ (j : ℕ). getD (take i l ++ rest) j d) e
       ∙ getD-append-add (take i l) rest (k - i) d
       ∙ List·getD-append vs (drop (i + length vs) l) d (k - i) (omega arith)
+
+-- stores to every place of a list leave what was stored
+pub sets-whole : (l vs : List ℕ) → length vs ≡ length l → sets l 0 vs ≡ vs
+sets-whole l vs e =
+    sets-eq vs l 0 (omega arith) ∙ ap (λ (x : List ℕ). vs ++ x) (drop-of-length-le l {i = 0 + length vs} (omega arith)) ∙ append-nil vs

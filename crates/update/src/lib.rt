@@ -6,7 +6,7 @@ ghost use lib.IntN.{pos, negℤ};
 ghost use Rattle.word.specs.Number.{fieldAt};
 ghost use Rattle.update.specs.Update.{putField, addField};
 
-pub fn put8(s: &mut [u8], off: usize, v: u8)
+fn put8(s: &mut [u8], off: usize, v: u8)
     requires { ⌜ off + 1 ≤ length (now s) ⌝ }
     ensures { λ _. ⌜ now (s .exit) ≡ putField 1 off v (now (s .entry)) ⌝ }
 {

@@ -69,7 +69,7 @@ pub fn bytes_in(w: Width) -> usize
     }
 }
 
-pub fn get8(s: &[u8], off: usize) -> u8
+fn get8(s: &[u8], off: usize) -> u8
     requires { ⌜ off + 1 ≤ length (now s) ⌝ }
     ensures { λ r. ⌜ r ≡ fieldAt 1 off (now (s .entry)) ⌝ }
 {

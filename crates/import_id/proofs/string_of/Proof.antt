@@ -1,8 +1,9 @@
 use borrow.Author.Needs.{needs}
 use native.Mathlib.Omega.{arith}
-use Rattle.import_id.proofs.Strings.{length-part, part-is, start-in, start-small, string-is}
+use Rattle.import_id.proofs.Strings.{part-is, start-in, start-small, string-is}
 use Rattle.import_id.proofs.string_of.Statement.{statement}
 use Rattle.import_id.proofs.string_of.Tie as tie
+use Rattle.format.proofs.Ranges.{length-part}
 
 add-end : tie.Need-add-end
 add-end c = search needs

@@ -4,10 +4,11 @@ use lib.ListN.{length, length-set}
 use lib.Seq.{sets}
 use mathlib.Core.Path.{_∙_, _≡_, refl, sym}
 use native.Mathlib.Nat.{sub-zero}
-use Rattle.sheet.proofs.Addresses.{fill-end, fill-next, length-numbers, sets-whole}
+use Rattle.sheet.proofs.Addresses.{fill-end, fill-next, length-numbers}
 use Rattle.sheet.specs.Sheet.{headLength, numbersFrom}
 use Rattle.sheet.proofs.fill_list.Statement.{statement}
 use Rattle.sheet.proofs.fill_list.Tie as tie
+use Rattle.update.proofs.Stores.{sets-whole}
 
 abbrev Inv-loop : tie.InvT-loop
 Inv-loop sheet list₀ i₀ list i = (i ≤ length list₀) × (length list ≡ length list₀) × (sets list i (numbersFrom sheet (headLength 2 + i * 8) (length list₀ - i)) ≡ sets list₀ 0 (numbersFrom sheet (headLength 2) (length list₀)))
