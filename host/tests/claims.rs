@@ -5,9 +5,6 @@
 use std::collections::{BTreeMap, BTreeSet};
 use std::path::PathBuf;
 
-/// Operations that have fewer than two edits so far.
-const FEW_EDITS: [&str; 2] = ["refusal::number", "refusal::item"];
-
 fn root() -> PathBuf {
     PathBuf::from(env!("CARGO_MANIFEST_DIR")).join("..")
 }
@@ -413,8 +410,7 @@ fn row_problems(row: &Row) -> Vec<String> {
     let (krate, _) = operation.split_once("::").unwrap_or((operation, ""));
     let mut problems = Vec::new();
     let given = names(row.cell("Edits"));
-    let few = FEW_EDITS.contains(&operation);
-    if few != (given.len() < 2) {
+    if given.len() < 2 {
         problems.push(format!("{operation}: {} edits", given.len()));
     }
     for name in given {

@@ -6,7 +6,7 @@ use mathlib.Core.List.{List, [], _∷_, map}
 use lib.IntN.{pos, negℤ}
 use Rattle.update.specs.Update.{addField}
 use Rattle.update.proofs.Figures as update
-use Rattle.format.specs.declared.Format.the-variants.{Xcoff64}
+use Rattle.format.specs.declared.Format.the-variants.{Xcoff64, Xcoff32}
 use Rattle.format.specs.declared.KindAnswer.the-variants.{Allowed}
 use Rattle.format.specs.declared.SectionKind.the-variants.{Dwarf}
 use Rattle.format.specs.Kind.{kindOf}
