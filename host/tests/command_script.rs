@@ -27,6 +27,11 @@ impl Repository {
         for source in sources {
             fs::write(new.path(source), "").unwrap();
         }
+        fs::write(
+            new.path("crates.txt"),
+            "# crates\nword:\nxcoff_c: word text # the library\ntext:\n",
+        )
+        .unwrap();
         let script = Path::new(env!("CARGO_MANIFEST_DIR")).join("../xcoff");
         fs::copy(script, new.path("xcoff")).unwrap();
         for tool in
@@ -95,7 +100,10 @@ impl Repository {
     /// Changes a source, after what was built.
     fn change(&self, source: &str) {
         std::thread::sleep(Duration::from_millis(50));
-        fs::write(self.path(source), "changed").unwrap();
+        let path = self.path(source);
+        let mut text = fs::read_to_string(&path).unwrap_or_default();
+        text.push_str("# changed\n");
+        fs::write(path, text).unwrap();
     }
 }
 
@@ -108,7 +116,7 @@ impl Drop for Repository {
 const PROVING: &str =
     "xcoff: proving and building the library (rt staticlib xcoff_c); this takes some minutes\n";
 const BUILDING: &str = "xcoff: building the command\n";
-const RT: &str = "rt staticlib xcoff_c\n";
+const RT: &str = "rt check word text\nrt staticlib xcoff_c\n";
 const CARGO: &str = "cargo build --quiet --release --offline --locked --manifest-path host/Cargo.toml --target-dir target/cargo --bin xcoff\n";
 
 #[test]
@@ -223,7 +231,7 @@ fn a_failed_build_is_shown_and_tried_again() {
         let expected = format!("{PROVING}not proved\nxcoff: the library is not built\n");
         assert_eq!(
             (status, out.as_str(), err, called.as_str()),
-            (3, "", expected, RT)
+            (3, "", expected, "rt check word text\n")
         );
     }
     repository.tool(
