@@ -15,6 +15,7 @@ use Rattle.section.specs.declared.Section.{Section}
 use Rattle.header.specs.declared.Summary.{Summary}
 use Rattle.header.specs.Open.{openOf}
 use Rattle.text.specs.Text.{decimal, hex}
+use Rattle.refusal.specs.Order.{byVerdict}
 
 abbrev pub blank : List ℕ
 blank = 32 ∷ []
@@ -77,13 +78,9 @@ refusalLine x = refusedWord ++ blank ++ decimal (numberOf x) ++ blank ++ decimal
 unfoldable pub summaryText : Summary → List ℕ
 summaryText y = fileLine (y .format) (y .count) (y .symbols .count) ++ sectionLines (y .format) 1 (take (y .count) (y .sections))
 
-unfoldable pub listingBy : Summary → Verdict → List ℕ
-listingBy y Accepted = summaryText y
-listingBy y (Refused x) = refusalLine x
-
 -- the text for a file
 unfoldable pub listing : List ℕ → List ℕ
-listing file = listingBy (openOf file .summary) (openOf file .verdict)
+listing file = byVerdict (openOf file .verdict) (summaryText (openOf file .summary)) refusalLine
 
 -- n counts bytes at the start of bs: the two forms in which lending them asks it
 abbrev pub Counts : ℕ → List ℕ → Type 0

@@ -13,6 +13,6 @@ unfoldable pub rowsOf : (ℕ → List ℕ) → ℕ → ℕ → List ℕ
 rowsOf row i zero = []
 rowsOf row i (suc n) = row i ++ rowsOf row (suc i) n
 
--- ROOM 0: the lent memory is not exactly as long as the rows. The cause is that of a sheet's buffer, the other operation that writes one buffer
+-- ROOM 0: the lent memory is not exactly as long as the rows
 unfoldable pub roomCheck : ℕ → ℕ → Verdict
 roomCheck given needed = refuseIf (not (eqb given needed)) (Room RowBuffer)

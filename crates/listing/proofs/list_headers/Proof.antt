@@ -1,5 +1,5 @@
 -- The verdict that opening gives decides; an accepted file has at most 32 sections.
-use Rattle.listing.specs.Listing.{listingBy, listing}
+use Rattle.listing.specs.Listing.{listing}
 use Rattle.header.proofs.Accepted.{opened-inside}
 use mathlib.Core.Path.{_∙_}
 use borrow.Author.Needs.{needs}
@@ -28,13 +28,13 @@ count-in-requires-2 : tie.Need-count-in-requires-2
 count-in-requires-2 c κs = search needs
 
 returns : tie.Need-returns
-unfolding listing listingBy
+unfolding listing
 returns c = let n = c .count-in .ensures in
     let e = c .before .before .before .put-refusal-line .ensures in
     rw (← c .before .before .before .before .before .before .before .before .before .«open» .ensures .0, c .before .before .before .before .before .before .v .given .1) (n .0 ∙ e .0, (e .1 .0, n .1))
 
 returns-2 : tie.Need-returns-2
-unfolding listing listingBy
+unfolding listing
 returns-2 c = let n = c .count-in2 .ensures in
     let e = c .before .before .before .put-summary .ensures in
     rw (← c .before .before .before .before .before .before .before .before .«open» .ensures .0, c .before .before .before .before .before .enum-told .given .1) (n .0 ∙ e .0, (e .1 .0, n .1))
