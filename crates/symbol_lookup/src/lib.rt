@@ -113,4 +113,3 @@ pub fn symbol_name<'a>(file: &'a [u8], i: SymbolIndex) -> &'a [u8]
     let a = symbol_name_range(file, i);
     refusal::part_of(file, a)
 }
-
