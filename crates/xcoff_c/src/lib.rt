@@ -18,8 +18,9 @@ ghost use Rattle.plan.specs.Relocatable.{relocatableAt};
 ghost use Rattle.image.specs.Report.{reportOfCall};
 ghost use Rattle.replay.specs.Script.{callsOf};
 ghost use Rattle.symbol_table.specs.Table.{symbolTable, symbolsAfter};
-ghost use Rattle.loader_tables.specs.Table.{tableCheck, tableAfter};
-ghost use Rattle.loader_tables.specs.Rows.{loaderSymbols, relocations};
+ghost use Rattle.module_table.specs.Table.{tableCheck, tableAfter};
+ghost use Rattle.loader_symbol_table.specs.Rows.{loaderSymbols};
+ghost use Rattle.relocation_table.specs.Rows.{relocations};
 ghost use Rattle.import_table.specs.Imports.{imports};
 ghost use Rattle.report_image.specs.Report.{cCall, cSheet, cVerdict};
 ghost use Rattle.report.specs.Report.{cOpen, cSection, cRange, cSymbol, cWalk, cCsect, cModule, cLoaderSymbol};
@@ -251,7 +252,7 @@ pub extern "C" fn xcoff_loader_symbol_table(file: &[u8], rows: &mut [u64]) -> CV
     ensures answer { λ r. ⌜ r ≡ cVerdict (reportOfVerdict (tableCheck loaderSymbols (now (file .entry)) (length (now (rows .entry))))) ⌝ }
     ensures rows { λ _. ⌜ now (rows .exit) ≡ tableAfter loaderSymbols (now (file .entry)) (now (rows .entry)) ⌝ }
 {
-    report_image::report_verdict(loader_tables::loader_symbol_table(file, rows))
+    report_image::report_verdict(loader_symbol_table::loader_symbol_table(file, rows))
 }
 
 // Lists its relocation entries: a row of 8 numbers for each.
@@ -260,7 +261,7 @@ pub extern "C" fn xcoff_relocation_table(file: &[u8], rows: &mut [u64]) -> CVerd
     ensures answer { λ r. ⌜ r ≡ cVerdict (reportOfVerdict (tableCheck relocations (now (file .entry)) (length (now (rows .entry))))) ⌝ }
     ensures rows { λ _. ⌜ now (rows .exit) ≡ tableAfter relocations (now (file .entry)) (now (rows .entry)) ⌝ }
 {
-    report_image::report_verdict(loader_tables::relocation_table(file, rows))
+    report_image::report_verdict(relocation_table::relocation_table(file, rows))
 }
 
 // Lists its import ids: a row of 6 numbers for each.
