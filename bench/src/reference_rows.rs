@@ -1,6 +1,6 @@
 //! Whole operations against the second implementation of the rules.
 
-use crate::common::made::Module;
+use crate::common::made::{Module, Symbol};
 use crate::common::orders::{module, Order};
 use crate::common::plain::{Build, Move, ENTRIES};
 use crate::files::Symbols;
@@ -67,7 +67,7 @@ fn judge(report: &mut Report, format: Format) {
         judge_one(report, &what, &mut file);
     }
     let mut m = Module::new(format);
-    m.symbols = 4096;
+    m.symbols = vec![Symbol::Data; 4096];
     let what = format!("{bits} module check, 4,096 loader symbols");
     judge_one(report, &what, &mut m.bytes());
 }

@@ -2,7 +2,7 @@
 
 mod made;
 
-use made::{Entry, Module};
+use made::{Entry, Module, Symbol};
 use xcoff::{Format, Refusal};
 
 // ---- bench figures, in both formats
@@ -83,12 +83,12 @@ fn at_most_4096_relocation_entries() {
 fn at_most_4096_loader_symbols() {
     for format in FORMATS {
         let mut m = Module::new(format);
-        m.symbols = 4096;
+        m.symbols = vec![Symbol::Data; 4096];
         let file = m.bytes();
         assert_eq!(xcoff::module(&file).map(|m| m.symbols), Ok(4096));
         assert_eq!(xcoff::loader_symbol_name(&file, 4098), Ok(&b"s"[..]));
         assert_eq!(xcoff::loader_symbol(&file, 4099).err(), refused(8, 4099));
-        m.symbols = 4097;
+        m.symbols = vec![Symbol::Data; 4097];
         assert_eq!(judged(&m), refused(3, 2));
     }
 }
@@ -97,7 +97,7 @@ fn at_most_4096_loader_symbols() {
 fn the_first_loader_symbol_has_index_3() {
     for format in FORMATS {
         let mut m = Module::new(format);
-        m.symbols = 1;
+        m.symbols = vec![Symbol::Data];
         let file = m.bytes();
         for i in 0..3 {
             assert_eq!(xcoff::loader_symbol(&file, i).err(), refused(8, i));

@@ -40,10 +40,15 @@ field-alike wide minus off a b bs h =
 
 -- ---- one entry
 
--- a field added to by what the tests say of its width and its sign
-pub field-added : {wide minus : Bool} (w n : Bool) (off z : ℕ) (bs cs : List ℕ) → wide ≡ w → minus ≡ n
-    → cs ≡ addField (bytesWide w) off (signed n (pos z)) bs → cs ≡ addField (bytesWide wide) off (signed minus (pos z)) bs
-field-added w n off z bs cs p q h = rw (p, q) h
+-- a field added to by what a test says of its sign
+pub sign-added : {minus : Bool} (n : Bool) (w off z : ℕ) (bs cs : List ℕ) → minus ≡ n
+    → cs ≡ addField w off (signed n (pos z)) bs → cs ≡ addField w off (signed minus (pos z)) bs
+sign-added n w off z bs cs p h = rw p h
+
+-- and of its width
+pub width-added : {wide : Bool} (w : Bool) (off : ℕ) (z : ℤ) (bs cs : List ℕ) → wide ≡ w
+    → cs ≡ addField (bytesWide w) off z bs → cs ≡ addField (bytesWide wide) off z bs
+width-added w off z bs cs p h = rw p h
 
 module _ (file : List ℕ) (l : Loadable) (i : ℕ) (e : Relocation) where
   -- an entry's symbol is text, data, bss or in the table

@@ -2,4 +2,5 @@
 
 pub mod Stands
 pub mod Entries
+pub mod Formats
 pub mod Exact

@@ -9,8 +9,34 @@ ghost use Rattle.update.specs.Update.{addField};
 ghost use Rattle.history.specs.Images.{images, signed, applyEntry, applyAll};
 ghost use Rattle.plan.specs.Relocatable.{relocationAt, relocationsFrom};
 ghost use Rattle.apply.specs.Shift.{StandsFor, importShift, shiftsBy};
+use format::Format;
 use history::Followed;
 use loadable::Loadable;
+use module::Module;
+
+// Adds `z` to the field of 4 bytes at `off`, or subtracts it.
+fn add_to_narrow(s: &mut [u8], off: usize, minus: bool, z: u64)
+    requires { ⌜ off + 4 ≤ length (now s) ⌝ }
+    ensures { λ _. ⌜ now (s .exit) ≡ addField 4 off (signed minus (pos z)) (now (s .entry)) ⌝ }
+{
+    if minus {
+        update::sub32(s, off, z);
+        return;
+    }
+    update::add32(s, off, z);
+}
+
+// The same of a field of 8 bytes. Each width has its own function, in which the compiler joins both branches but for the sum.
+fn add_to_wide(s: &mut [u8], off: usize, minus: bool, z: u64)
+    requires { ⌜ off + 8 ≤ length (now s) ⌝ }
+    ensures { λ _. ⌜ now (s .exit) ≡ addField 8 off (signed minus (pos z)) (now (s .entry)) ⌝ }
+{
+    if minus {
+        update::sub64(s, off, z);
+        return;
+    }
+    update::add64(s, off, z);
+}
 
 // Adds `z` to the field of 8 or 4 bytes at `off`, or subtracts it.
 fn add_to_field(s: &mut [u8], off: usize, wide: bool, minus: bool, z: u64)
@@ -18,18 +44,10 @@ fn add_to_field(s: &mut [u8], off: usize, wide: bool, minus: bool, z: u64)
     ensures { λ _. ⌜ now (s .exit) ≡ addField (bytesWide wide) off (signed minus (pos z)) (now (s .entry)) ⌝ }
 {
     if wide {
-        if minus {
-            update::sub64(s, off, z);
-            return;
-        }
-        update::add64(s, off, z);
+        add_to_wide(s, off, minus, z);
         return;
     }
-    if minus {
-        update::sub32(s, off, z);
-        return;
-    }
-    update::add32(s, off, z);
+    add_to_narrow(s, off, minus, z);
 }
 
 // An import's shift: to the address in one list, in a move from that in the other, in a build from its recorded value.
@@ -124,9 +142,36 @@ fn apply_entry(
     add_to_field(data, place.offset as usize, place.wide, e.minus, z);
 }
 
-// Applies each relocation entry in order. `d` has the shifts of text, data and bss; imports shift from `from` to `to`, in a build from their
-// recorded values.
-pub fn apply_all(
+// The same in XCOFF32, whose fields are all of 4 bytes.
+fn apply_entry32(
+    file: &[u8],
+    l: Loadable,
+    i: u64,
+    d: [u64; 3],
+    moving: bool,
+    from: &[u64],
+    to: &[u64],
+    text: &mut [u8],
+    data: &mut [u8],
+)
+    requires { ⌜ Valid (now file) l × (i < l .tables .nreloc) ⌝ }
+    requires { ⌜ (length (now from) ≡ l .tables .nsyms) × (length (now to) ≡ l .tables .nsyms) ⌝ }
+    requires { ⌜ (length (now text) ≡ l .layout .parts .text .size) × (length (now «data») ≡ l .layout .image) ⌝ }
+    requires { ⌜ l .layout .format ≡ Format.Xcoff32 ⌝ }
+    ensures { λ _. ⌜ images (now (text .exit)) (now («data» .exit)) ≡ applyEntry (relocationAt (now (file .entry)) l i) (shiftsBy (now (file .entry)) l d moving (now (from .entry)) (now (to .entry))) (images (now (text .entry)) (now («data» .entry))) ⌝ }
+{
+    let e = plan::relocation_at(file, l, i);
+    let place = e.place;
+    let z = shift_of(file, l, d, moving, from, to, e.symbol);
+    if place.text {
+        add_to_narrow(text, place.offset as usize, e.minus, z);
+        return;
+    }
+    add_to_narrow(data, place.offset as usize, e.minus, z);
+}
+
+// Applies each relocation entry in order.
+fn apply_entries(
     file: &[u8],
     l: Loadable,
     d: [u64; 3],
@@ -147,5 +192,82 @@ pub fn apply_all(
     while i < count {
         apply_entry(file, l, i, d, moving, from, to, text, data);
         i += 1;
+    }
+}
+
+// The same in XCOFF32.
+fn apply_entries32(
+    file: &[u8],
+    l: Loadable,
+    d: [u64; 3],
+    moving: bool,
+    from: &[u64],
+    to: &[u64],
+    text: &mut [u8],
+    data: &mut [u8],
+)
+    requires { ⌜ Valid (now file) l ⌝ }
+    requires { ⌜ (length (now from) ≡ l .tables .nsyms) × (length (now to) ≡ l .tables .nsyms) ⌝ }
+    requires { ⌜ (length (now text) ≡ l .layout .parts .text .size) × (length (now «data») ≡ l .layout .image) ⌝ }
+    requires { ⌜ l .layout .format ≡ Format.Xcoff32 ⌝ }
+    ensures { λ _. ⌜ images (now (text .exit)) (now («data» .exit)) ≡ applyAll (relocationsFrom (now (file .entry)) l 0 (l .tables .nreloc)) (shiftsBy (now (file .entry)) l d moving (now (from .entry)) (now (to .entry))) (images (now (text .entry)) (now («data» .entry))) ⌝ }
+{
+    let t = l.tables;
+    let count = t.nreloc;
+    let mut k: u64 = 0;
+    while k < count {
+        apply_entry32(file, l, k, d, moving, from, to, text, data);
+        k += 1;
+    }
+}
+
+// A module whose format is `f`, with `f` written into it, so that the compiler knows it in all that follows.
+fn with_format(l: Loadable, f: Format) -> Loadable
+    requires { ⌜ l .layout .format ≡ f ⌝ }
+    ensures { λ r. ⌜ r ≡ l ⌝ }
+{
+    let m = l.layout;
+    let parts = m.parts;
+    let entry = m.entry;
+    let toc = m.toc;
+    let tables = l.tables;
+    let layout = Module {
+        format: f,
+        parts,
+        image: m.image,
+        entry,
+        toc,
+    };
+    Loadable { layout, tables }
+}
+
+// Applies each relocation entry in order. `d` has the shifts of text, data and bss; imports shift from `from` to `to`, in a build from their
+// recorded values. Each format has a loop of its own, which then does not ask for the format at each entry.
+pub fn apply_all(
+    file: &[u8],
+    l: Loadable,
+    d: [u64; 3],
+    moving: bool,
+    from: &[u64],
+    to: &[u64],
+    text: &mut [u8],
+    data: &mut [u8],
+)
+    requires { ⌜ Valid (now file) l ⌝ }
+    requires { ⌜ (length (now from) ≡ l .tables .nsyms) × (length (now to) ≡ l .tables .nsyms) ⌝ }
+    requires { ⌜ (length (now text) ≡ l .layout .parts .text .size) × (length (now «data») ≡ l .layout .image) ⌝ }
+    ensures { λ _. ⌜ images (now (text .exit)) (now («data» .exit)) ≡ applyAll (relocationsFrom (now (file .entry)) l 0 (l .tables .nreloc)) (shiftsBy (now (file .entry)) l d moving (now (from .entry)) (now (to .entry))) (images (now (text .entry)) (now («data» .entry))) ⌝ }
+{
+    let m = l.layout;
+    let f = m.format;
+    match f {
+        Format::Xcoff32 => {
+            let known = with_format(l, Format::Xcoff32);
+            apply_entries32(file, known, d, moving, from, to, text, data)
+        }
+        Format::Xcoff64 => {
+            let known = with_format(l, Format::Xcoff64);
+            apply_entries(file, known, d, moving, from, to, text, data)
+        }
     }
 }

@@ -1,7 +1,7 @@
 -- The laws of numbers in bytes, once over the width. Assumes nothing.
-use mathlib.Core.Path.{_≡_}
+use mathlib.Core.Path.{_≡_, _∙_}
 use mathlib.Core.List.{List, [], _∷_, _++_}
-use Prim.Native.Nat.{ℕ, _+_, _*_, _^_, _≤_}
+use Prim.Native.Nat.{ℕ, _+_, _*_, _/_, _%_, _^_, _≤_, _<_}
 use native.Mathlib.Omega.{arith}
 use lib.ListN.{length, getD, take, drop, length-append, length-drop}
 use lib.Seq.{take-add, drop-drop, length-take-le, drop-cons}
@@ -37,3 +37,26 @@ field-four off bs h =
     let high = field-split 1 1 off bs (omega arith) in
     let low = rw q at (field-split 1 1 (off + 2) bs (omega arith)) in
     omega (arith, halves, high, low, field-one off bs (omega arith), field-one (off + 1) bs (omega arith), field-one (off + 2) bs (omega arith), field-one (off + 3) bs (omega arith))
+
+-- the lower and the upper digit of a number, in three bases
+byte-digits : (x y : ℕ) → x < 256 → ((x + y * 256) % 256 ≡ x) × ((x + y * 256) / 256 ≡ y)
+byte-digits x y h = (omega arith, omega arith)
+
+half-digits : (a b y : ℕ) → a < 256 → b < 256 → (a + b * 256 + y * 65536) / 65536 ≡ y
+half-digits a b y p q = omega arith
+
+top-digits : (a b c y : ℕ) → a < 256 → b < 256 → c < 256 → (a + b * 256 + c * 65536 + y * 16777216) / 16777216 ≡ y
+top-digits a b c y p q r = omega arith
+
+-- four bytes loaded with the least significant first, and then swapped
+pub swapped : (a b c d v r : ℕ) → v ≡ a + b * 256 + c * 65536 + d * 16777216 → (a < 256) × (b < 256) × (c < 256) × (d < 256)
+    → r ≡ v % 256 * 16777216 + v / 256 % 256 * 65536 + v / 65536 % 256 * 256 + v / 16777216
+    → r ≡ a * 16777216 + b * 65536 + c * 256 + d
+swapped a b c d v r e h s =
+    let e1 : v ≡ a + (b + (c + d * 256) * 256) * 256 = e ∙ omega arith in
+    let e2 : v ≡ (a + b * 256) + (c + d * 256) * 65536 = e ∙ omega arith in
+    let last : v % 256 ≡ a = rw e1 (byte-digits a (b + (c + d * 256) * 256) (h .0) .0) in
+    let third : v / 256 ≡ b + (c + d * 256) * 256 = rw e1 (byte-digits a (b + (c + d * 256) * 256) (h .0) .1) in
+    let second : v / 65536 ≡ c + d * 256 = rw e2 (half-digits a b (c + d * 256) (h .0) (h .1)) in
+    let first : v / 16777216 ≡ d = rw e (top-digits a b c d (h .0) (h .1) (h .2)) in
+    rw (last, third, second, first, byte-digits b (c + d * 256) (h .1) .0, byte-digits c d (h .2) .0) at s

@@ -1,8 +1,8 @@
 // Numbers in bytes: big-endian reads, the first zero of a slice, and sums compared in exact arithmetic.
 ghost use mathlib.Core.Path.{_≡_};
 ghost use mathlib.Core.List.{[], _∷_};
-ghost use Prim.Native.Nat.{_+_, _≤_, _<_, _^_};
-ghost use lib.ListN.{length};
+ghost use Prim.Native.Nat.{_+_, _*_, _/_, _%_, _≤_, _<_, _^_};
+ghost use lib.ListN.{length, getD};
 ghost use Rattle.word.specs.Number.{field, fieldAt, bytesIn, fieldIn};
 ghost use Rattle.word.specs.Zero.{firstZero, zerosIn, ZeroEnd};
 ghost use Rattle.word.specs.Test.{past};
@@ -86,15 +86,33 @@ pub fn get16(s: &[u8], off: usize) -> u16
     (high as u16) * 256 + (low as u16)
 }
 
+// Loaded and then swapped, in two functions: each is one instruction to the compiler before it decides what to inline, where four bytes
+// taken one by one would be many.
 pub fn get32(s: &[u8], off: usize) -> u32
     requires { ⌜ off + 4 ≤ length (now s) ⌝ }
     ensures { λ r. ⌜ r ≡ fieldAt 4 off (now (s .entry)) ⌝ }
+{
+    swap32(load32(s, off))
+}
+
+// The four bytes at `off`, the least significant first.
+fn load32(s: &[u8], off: usize) -> u32
+    requires { ⌜ off + 4 ≤ length (now s) ⌝ }
+    ensures value { λ r. ⌜ r ≡ getD (now (s .entry)) off 0 + getD (now (s .entry)) (off + 1) 0 * 256 + getD (now (s .entry)) (off + 2) 0 * 65536 + getD (now (s .entry)) (off + 3) 0 * 16777216 ⌝ }
+    ensures bytes { λ _. ⌜ (getD (now (s .entry)) off 0 < 256) × (getD (now (s .entry)) (off + 1) 0 < 256) × (getD (now (s .entry)) (off + 2) 0 < 256) × (getD (now (s .entry)) (off + 3) 0 < 256) ⌝ }
 {
     let b0 = wide(s[off]);
     let b1 = wide(s[off + 1]);
     let b2 = wide(s[off + 2]);
     let b3 = wide(s[off + 3]);
-    b0 * 16777216 + b1 * 65536 + b2 * 256 + b3
+    b0 + b1 * 256 + b2 * 65536 + b3 * 16777216
+}
+
+// The four bytes of `v` in the other order.
+fn swap32(v: u32) -> u32
+    ensures { λ r. ⌜ r ≡ v % 256 * 16777216 + v / 256 % 256 * 65536 + v / 65536 % 256 * 256 + v / 16777216 ⌝ }
+{
+    v % 256 * 16777216 + v / 256 % 256 * 65536 + v / 65536 % 256 * 256 + v / 16777216
 }
 
 fn wide(b: u8) -> u32

@@ -5,4 +5,5 @@
 pub mod made;
 pub mod orders;
 pub mod plain;
+pub mod relocate;
 pub mod turns;

@@ -1,10 +1,13 @@
 //! Builds and moves, and the least that any program must do for them: the raw bytes copied, and the entries applied in a plain loop.
 
-use super::made::{Entry, Module};
+use super::made::{Entry, Module, Symbol};
+use super::relocate::{Shifts, Tables};
 use std::hint::black_box;
 use xcoff::{build_images, move_images, Format, Plan};
 
 pub const ENTRIES: u64 = 4096;
+/// So many of them are on fields of text, the others on fields of data.
+const IN_TEXT: u64 = ENTRIES / 8;
 
 pub fn plan(text: u64, data: u64) -> Plan {
     Plan {
@@ -74,32 +77,42 @@ fn with_bss(file: &mut [u8], format: Format, size: u32) {
     }
 }
 
-/// A module with entries, two plans and its images; and a copy of the data image for the plain loop.
+/// A module with entries, two plans and its images; and a copy of the images for the plain loop.
 pub struct Move {
-    pub format: Format,
     pub file: Vec<u8>,
     pub from: Plan,
     pub to: Plan,
     pub text: Vec<u8>,
     pub data: Vec<u8>,
-    same: Vec<u8>,
-    base: u64,
+    tables: Tables,
+    plain_text: Vec<u8>,
+    plain_data: Vec<u8>,
 }
 
 impl Move {
     pub fn new(format: Format) -> Move {
         let mut m = Module::new(format);
-        m.data_size = 8 * ENTRIES;
+        m.text_size = 8 * IN_TEXT;
+        m.data_size = 8 * (ENTRIES - IN_TEXT);
+        m.symbols = vec![Symbol::Text, Symbol::Data, Symbol::Import, Symbol::Deferred];
         m.entries = entries(&m);
+        let file = m.bytes();
+        let images = (vec![0; m.text_size as usize], vec![0; m.data_size as usize]);
         Move {
-            format,
-            file: m.bytes(),
-            from: plan(0x3000_0000, 0x4000_0000),
-            to: plan(0x3123_0000, 0x5000_0010),
-            text: vec![0; m.text_size as usize],
-            data: vec![0; m.data_size as usize],
-            same: vec![0; m.data_size as usize],
-            base: m.data_address,
+            tables: Tables::of(&file),
+            file,
+            from: Plan {
+                list: vec![0, 0, 0x1234_5678, 0],
+                ..plan(0x3000_0000, 0x4000_0000)
+            },
+            to: Plan {
+                list: vec![0, 0, 0x2345_0004, 0],
+                ..plan(0x3123_0000, 0x5000_0010)
+            },
+            text: images.0.clone(),
+            data: images.1.clone(),
+            plain_text: images.0,
+            plain_data: images.1,
         }
     }
 
@@ -111,72 +124,73 @@ impl Move {
         black_box(move_images(&self.file, &self.from, &self.to, &mut self.text, &mut self.data).unwrap());
     }
 
-    /// The same loop in plain Rust: entries read from the file, each field changed. Nothing is judged.
+    /// The same loop in plain Rust, which judges nothing.
     pub fn plain(&mut self) {
-        let (text, data) = (self.to.text - self.from.text, self.to.data - self.from.data);
-        let table = self.file.len()
-            - match self.format {
-                Format::Xcoff32 => 12 * ENTRIES as usize,
-                Format::Xcoff64 => 16 * ENTRIES as usize + 4,
-            };
-        apply(
-            &self.file[table..],
-            self.format,
-            self.base,
-            [text, data, data],
-            &mut self.same,
-        );
+        let by = Shifts {
+            parts: [
+                self.to.text.wrapping_sub(self.from.text),
+                self.to.data.wrapping_sub(self.from.data),
+                self.to.data.wrapping_sub(self.from.data),
+            ],
+            from: &self.from.list,
+            to: &self.to.list,
+        };
+        self.tables
+            .relocate(&self.file, by, &mut self.plain_text, &mut self.plain_data);
+        black_box((&mut self.plain_text, &mut self.plain_data));
+    }
+
+    /// The module check, and then the plain loop.
+    pub fn judge_and_plain(&mut self) {
+        self.judge();
+        self.plain();
     }
 
     /// Whether both have the same bytes, after equally many calls.
     pub fn same(&self) -> bool {
-        self.data == self.same
+        self.text == self.plain_text && self.data == self.plain_data
     }
 }
 
-/// Entries on fields of data, by turns text and data added and text subtracted.
+/// What the entries do, by turns: the symbol, and the type in XCOFF32 and in XCOFF64. Symbols 0 to 2 are text, data and bss; 3 to 6 the
+/// loader symbols: in text, in data, an import, and one that no file gives.
+const KINDS: [(u32, u16, u16); 16] = [
+    (0, 0x1F00, 0x3F00),
+    (1, 0x1F00, 0x3F00),
+    (1, 0x1F00, 0x3F00),
+    (5, 0x1F00, 0x3F00),
+    (0, 0x1F01, 0x1F01),
+    (1, 0x1F00, 0x3F00),
+    (0, 0x1F00, 0x3F00),
+    (2, 0x1F00, 0x3F00),
+    (3, 0x1F00, 0x3F00),
+    (1, 0x1F00, 0x3F00),
+    (0, 0x1F00, 0x1F00),
+    (5, 0x1F00, 0x3F00),
+    (1, 0x1F01, 0x3F01),
+    (4, 0x1F00, 0x3F00),
+    (0, 0x1F00, 0x3F00),
+    (6, 0x1F00, 0x3F00),
+];
+
+/// Entries in ascending order, first on fields of text, then on fields of data.
 fn entries(m: &Module) -> Vec<Entry> {
-    let kinds = match m.format {
-        Format::Xcoff32 => [0x1F00, 0x1F01, 0x1F00],
-        Format::Xcoff64 => [0x3F00, 0x1F01, 0x3F00],
-    };
-    (0..ENTRIES)
-        .map(|i| Entry {
-            address: m.data_address + 8 * i,
-            symbol: [0, 0, 1][i as usize % 3],
-            kind: kinds[i as usize % 3],
-            section: 2,
-        })
-        .collect()
-}
-
-fn apply(table: &[u8], format: Format, base: u64, d: [u64; 3], data: &mut [u8]) {
-    let (size, word, place) = match format {
-        Format::Xcoff32 => (12, 4, 4),
-        Format::Xcoff64 => (16, 8, 12),
-    };
-    for i in 0..ENTRIES as usize {
-        let at = i * size;
-        let off = (number(table, at, word) - base) as usize;
-        let kind = number(table, at + 8, 2);
-        let mut z = d[number(table, at + place, 4) as usize];
-        if kind % 256 == 1 {
-            z = z.wrapping_neg();
+    let entry = |i: u64| {
+        let (symbol, narrow, wide) = KINDS[i as usize % KINDS.len()];
+        let kind = match m.format {
+            Format::Xcoff32 => narrow,
+            Format::Xcoff64 => wide,
+        };
+        let (section, address) = match i.checked_sub(IN_TEXT) {
+            None => (1, m.text_address + 8 * i),
+            Some(i) => (2, m.data_address + 8 * i),
+        };
+        Entry {
+            address,
+            symbol,
+            kind,
+            section,
         }
-        if kind / 256 % 64 == 63 {
-            let v = number(data, off, 8).wrapping_add(z);
-            data[off..off + 8].copy_from_slice(&v.to_be_bytes());
-        } else {
-            let v = (number(data, off, 4) as u32).wrapping_add(z as u32);
-            data[off..off + 4].copy_from_slice(&v.to_be_bytes());
-        }
-    }
-}
-
-fn number(file: &[u8], at: usize, width: usize) -> u64 {
-    match width {
-        2 => u16::from_be_bytes(file[at..at + 2].try_into().unwrap()) as u64,
-        4 => u32::from_be_bytes(file[at..at + 4].try_into().unwrap()) as u64,
-        _ => u64::from_be_bytes(file[at..at + 8].try_into().unwrap()),
-    }
+    };
+    (0..ENTRIES).map(entry).collect()
 }

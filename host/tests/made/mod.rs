@@ -11,6 +11,27 @@ pub struct Entry {
     pub section: u16,
 }
 
+/// What a loader symbol is: defined at the start of text or of data, imported from import id 1, or imported from no file.
+#[derive(Clone, Copy)]
+pub enum Symbol {
+    Text,
+    Data,
+    Import,
+    Deferred,
+}
+
+impl Symbol {
+    /// Its value, section number, type and import id.
+    fn fields(self, m: &Module) -> (u64, u16, u8, u32) {
+        match self {
+            Symbol::Text => (m.text_address, 1, 0, 0),
+            Symbol::Data => (m.data_address, 2, 0, 0),
+            Symbol::Import => (0, 0, 0x40, 1),
+            Symbol::Deferred => (0, 0, 0x40, 0),
+        }
+    }
+}
+
 /// What a module is made of. Its bss is empty, and text, data, bss and loader are sections 1 to 4.
 #[derive(Clone)]
 pub struct Module {
@@ -19,8 +40,8 @@ pub struct Module {
     pub text_size: u64,
     pub data_address: u64,
     pub data_size: u64,
-    /// Loader symbols, all named `s`, defined at the start of data.
-    pub symbols: u32,
+    /// Loader symbols, all named `s`.
+    pub symbols: Vec<Symbol>,
     pub entries: Vec<Entry>,
 }
 
@@ -32,7 +53,7 @@ impl Module {
             text_size: 0x100,
             data_address: 0x2000_0000,
             data_size: 0x100,
-            symbols: 0,
+            symbols: Vec::new(),
             entries: Vec::new(),
         }
     }
@@ -103,43 +124,54 @@ impl Module {
         }
     }
 
-    /// The loader section: header, symbols, relocation entries, strings. There are no import ids.
+    /// The loader section: header, symbols, relocation entries, import ids, strings. There are two import ids where a symbol needs one.
     fn loader(&self) -> Vec<u8> {
         let mut out = Writer {
             format: self.format,
             bytes: Vec::new(),
         };
-        let count = self.symbols as u64;
+        let count = self.symbols.len() as u64;
         let entries = self.entries.len() as u64;
+        let ids: &[u8] = match self.symbols.iter().any(|s| matches!(s, Symbol::Import)) {
+            true => b"/lib\0\0\0\0libc.a\0shr.o\0",
+            false => b"",
+        };
         out.u32(1);
-        out.u32(self.symbols);
+        out.u32(count as u32);
         out.u32(entries as u32);
-        out.zeros(8);
+        out.u32(ids.len() as u32);
+        out.u32(if ids.is_empty() { 0 } else { 2 });
         match self.format {
-            Format::Xcoff32 => out.zeros(12),
+            Format::Xcoff32 => {
+                out.word(32 + 24 * count + 12 * entries);
+                out.zeros(8);
+            }
             Format::Xcoff64 => {
                 let symbols = 56;
                 let relocations = symbols + 24 * count;
+                let rest = relocations + 16 * entries;
                 out.u32(4);
-                out.word(0);
-                for n in [relocations + 16 * entries, symbols, relocations] {
+                for n in [rest, rest + ids.len() as u64, symbols, relocations] {
                     out.word(n);
                 }
             }
         }
-        for _ in 0..count {
+        for symbol in &self.symbols {
+            let (value, section, kind, id) = symbol.fields(self);
             match self.format {
                 Format::Xcoff32 => {
                     out.bytes.extend(b"s\0\0\0\0\0\0\0");
-                    out.word(self.data_address);
+                    out.word(value);
                 }
                 Format::Xcoff64 => {
-                    out.word(self.data_address);
+                    out.word(value);
                     out.u32(2);
                 }
             }
-            out.u16(2);
-            out.zeros(10);
+            out.u16(section);
+            out.bytes.extend([kind, 0]);
+            out.u32(id);
+            out.zeros(4);
         }
         for e in &self.entries {
             out.word(e.address);
@@ -152,6 +184,7 @@ impl Module {
                 out.u32(e.symbol);
             }
         }
+        out.bytes.extend(ids);
         if self.format == Format::Xcoff64 {
             out.bytes.extend(b"\0\x02s\0");
         }

@@ -1,84 +1,83 @@
-use Prim.Native.Nat.{_-_, _≤_}
+use borrow.Author.Needs.{needs}
 use lib.ListN.{length}
-use mathlib.Core.Path.{_∙_, _≡_, refl, sym}
-use native.Mathlib.Omega.{arith}
-use Rattle.apply.proofs.Entries.{all-end, all-start, all-turn}
-use Rattle.apply.specs.Shift.{shiftsBy}
-use Rattle.history.specs.Images.{applyAll, images}
-use Rattle.plan.specs.Relocatable.{relocationsFrom}
+use mathlib.Core.Path.{_≡_}
+use Rattle.format.specs.declared.Format.the-variants as format
+use Rattle.loadable.specs.declared.Loadable.{Loadable}
+use Rattle.loadable.specs.Valid.{Valid}
+use Rattle.apply.proofs.Formats.{applied-same, kept}
 use Rattle.apply.proofs.apply_all.Statement.{statement}
 use Rattle.apply.proofs.apply_all.Tie as tie
 
-abbrev Inv-loop : tie.InvT-loop
-Inv-loop file l d moving from to text₀ data₀ count i₀ text «data» i =
-    (i ≤ l .tables .nreloc) × (length text ≡ length text₀) × (length «data» ≡ length data₀)
-    × (applyAll (relocationsFrom file l i (l .tables .nreloc - i)) (shiftsBy file l d moving from to) (images text «data»)
-    ≡ applyAll (relocationsFrom file l 0 (l .tables .nreloc)) (shiftsBy file l d moving from to) (images text₀ data₀))
+enum-told : tie.Need-enum-told
+enum-told c = search needs
 
-abbrev μ-loop : tie.MeasureT-loop
-μ-loop file l d moving from to text₀ data₀ count i₀ text «data» i = l .tables .nreloc - i
+with-format-requires : tie.Need-with-format-requires
+with-format-requires c κs = search needs
 
-loop-holds : tie.Need-loop-holds Inv-loop μ-loop
-loop-holds c = (omega arith, refl, refl, all-start _ _ _ _ _)
-
-apply-entry-requires : tie.Need-apply-entry-requires Inv-loop μ-loop
-apply-entry-requires c κs = (
-  (
-    c .before .before .before .before .before .before .before .before .before .before .pre .0,
-    c .before .before .loop-test .taken,
-  ),
-  (
-    c .before .before .before .before .before .before .before .before .before .before .pre .1 .0,
-    (
-      c .before .before .before .loop .inv .1
-          ∙ c .before .before .before .before .before .before .before .before .before .before .pre .1 .1 .0,
-      c .before .before .before .loop .inv .2
-          ∙ c .before .before .before .before .before .before .before .before .before .before .pre .1 .1 .1,
-    ),
-  ),
-)
-
-add-i : tie.Need-add-i Inv-loop μ-loop
-add-i c =
-    omega (
-      arith,
-      c .before .before .before .before .before .before .before .loop-test .taken,
-      c .before .before .before .before .before .before .before .before .before .before .before .before .before .before .before .pre .0 .entries .few,
+apply-entries32-requires : tie.Need-apply-entries32-requires
+apply-entries32-requires c κs =
+    let a = c .before .before .before .before .before .before .before .before .before .before .before .args in
+    let p = c .before .before .before .before .before .before .before .before .before .before .before .pre in
+    let e = c .before .before .with-format .ensures in (
+      kept (λ (x : Loadable). Valid (a .file .now) x) e (p .0),
+      (
+        kept (λ (x : Loadable). (length (a .from .now) ≡ x .tables .nsyms) × (length (a .to .now) ≡ x .tables .nsyms)) e (p .1 .0),
+        (
+          kept (λ (x : Loadable). (length (a .text .now) ≡ x .layout .parts .text .size) × (length (a .«data» .now) ≡ x .layout .image)) e (p .1 .1),
+          kept (λ (x : Loadable). x .layout .format ≡ format.Xcoff32) e (c .before .before .before .enum-told .given .1),
+        ),
+      ),
     )
 
-loop-less : tie.Need-loop-less Inv-loop μ-loop
-loop-less c = omega (arith, c .before .before .before .before .before .before .before .loop-test .taken)
+enum-told-2 : tie.Need-enum-told-2
+enum-told-2 c = search needs
 
-loop-again : tie.Need-loop-again Inv-loop μ-loop
-loop-again c =
-    let k = c .before .before .before .before .apply-entry .kept .1 .1 .1 .1 .1 .1 .1 in
-    let v = c .before .before .before .before .before .before .before .before .loop .inv in (
-      omega (arith, c .before .before .before .before .before .before .before .loop-test .taken),
-      k .0 ∙ v .1,
-      k .1 .0 ∙ v .2,
-      all-turn _ _ _ _ _ _ _ (c .before .before .before .before .before .before .before .loop-test .taken) (c .before .before .before .before .apply-entry .ensures) ∙ v .3,
+with-format-requires-2 : tie.Need-with-format-requires-2
+with-format-requires-2 c κs = search needs
+
+apply-entries-requires : tie.Need-apply-entries-requires
+apply-entries-requires c κs =
+    let a = c .before .before .before .before .before .before .before .before .before .before .before .args in
+    let p = c .before .before .before .before .before .before .before .before .before .before .before .pre in
+    let e = c .before .before .with-format2 .ensures in (
+      kept (λ (x : Loadable). Valid (a .file .now) x) e (p .0),
+      (
+        kept (λ (x : Loadable). (length (a .from .now) ≡ x .tables .nsyms) × (length (a .to .now) ≡ x .tables .nsyms)) e (p .1 .0),
+        kept (λ (x : Loadable). (length (a .text .now) ≡ x .layout .parts .text .size) × (length (a .«data» .now) ≡ x .layout .image)) e (p .1 .1),
+      ),
     )
 
-same-length : tie.Need-same-length Inv-loop μ-loop
-same-length c = c .before .loop .inv .1
+same-length : tie.Need-same-length
+same-length c = search needs
 
-same-length-2 : tie.Need-same-length-2 Inv-loop μ-loop
-same-length-2 c = c .before .loop .inv .2
+same-length-2 : tie.Need-same-length-2
+same-length-2 c = search needs
 
-returns : tie.Need-returns Inv-loop μ-loop
-returns c = sym (all-end _ _ _ _ _ _ (c .loop-test .left)) ∙ c .before .loop .inv .3
+returns : tie.Need-returns
+returns c = applied-same _ _ _ _ _ _ _ (c .before .before .before .before .before .before .before .with-format .ensures) (c .before .before .before .before .apply-entries32 .ensures)
+
+same-length-3 : tie.Need-same-length-3
+same-length-3 c = search needs
+
+same-length-4 : tie.Need-same-length-4
+same-length-4 c = search needs
+
+returns-2 : tie.Need-returns-2
+returns-2 c = applied-same _ _ _ _ _ _ _ (c .before .before .before .before .before .before .before .with-format2 .ensures) (c .before .before .before .before .apply-entries .ensures)
 
 pub apply-all-spec : {M : Type 1} → statement M
 apply-all-spec =
     tie.close
     (tie.spec
-    Inv-loop
-    μ-loop
-    loop-holds
-    apply-entry-requires
-    add-i
-    loop-less
-    loop-again
+    enum-told
+    with-format-requires
+    apply-entries32-requires
+    enum-told-2
+    with-format-requires-2
+    apply-entries-requires
     same-length
     same-length-2
-    returns)
+    returns
+    same-length-3
+    same-length-4
+    returns-2)
