@@ -5,7 +5,7 @@ use mathlib.Core.List.{List}
 use Prim.Native.Nat.{ℕ}
 use lib.Dec.{eqb}
 use lib.ListN.{length}
-use borrow.Author.Tests.{eq-eqb, ne-eqb, eqb-true, not-false}
+use borrow.Author.Tests.{eq-eqb, ne-eqb}
 use Rattle.refusal.specs.declared.RoomItem.the-variants.{TextBuffer, DataBuffer}
 use Rattle.refusal.specs.declared.Refusal.{Refusal}
 use Rattle.refusal.specs.declared.Refusal.the-variants as refusal
@@ -13,7 +13,7 @@ use Rattle.refusal.specs.declared.Verdict.{Verdict}
 use Rattle.refusal.specs.declared.Verdict.the-variants.{Accepted, Refused}
 use Rattle.refusal.specs.Refusal.{isRefused}
 use Rattle.refusal.specs.Order.{_orElse_, refuseIf}
-use Rattle.refusal.proofs.Order.{told, told-accepted, go-on, stop, accepted-first, accepted-rest, accepted-test, accepted-equal}
+use Rattle.refusal.proofs.Order.{told, told-accepted, go-on, stop, accepted-first, accepted-rest, accepted-equal}
 use Rattle.loadable.specs.declared.Loadable.{Loadable}
 use Rattle.loadable.specs.Valid.{Valid}
 use Rattle.history.specs.Plan.{Plan, listCheck, fitCheck, planCheck}

@@ -4,7 +4,6 @@ ghost use Prim.Native.Nat.{_-_};
 ghost use lib.ListN.{length};
 ghost use Rattle.loadable.specs.Valid.{Valid};
 ghost use Rattle.refusal.specs.Order.{_orElse_};
-ghost use Rattle.history.specs.Images.{images};
 ghost use Rattle.history.specs.Plan.{listCheck, fitCheck};
 ghost use Rattle.history.specs.Call.{Call, build, roomCheck, callCheck};
 ghost use Rattle.plan.specs.Relocatable.{relocatableOf};

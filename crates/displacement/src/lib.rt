@@ -1,7 +1,6 @@
 // What text, data and bss move by in a plan, and the entry and TOC addresses there.
 ghost use mathlib.Core.Path.{_≡_};
 ghost use Prim.Native.Nat.{_+_, _-_, _%_};
-ghost use lib.ListN.{drop};
 ghost use lib.IntN.{pos, _-ℤ_};
 ghost use Rattle.format.specs.Layout.{addressLimit};
 ghost use Rattle.apply.specs.Shift.{Displaced};

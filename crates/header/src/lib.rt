@@ -1,6 +1,5 @@
 // Opening a file: its headers are judged in the order of document 01, and a summary by value is handed back.
 ghost use mathlib.Core.Path.{_≡_};
-ghost use lib.ListN.{length};
 ghost use Rattle.file_header.specs.Header.{Bounded};
 ghost use Rattle.file_tables.specs.Tables.{symbolsCheck};
 ghost use Rattle.header.specs.Open.{refusedBy, openedBy, summaryWith, openAs, openOf, openReport, reportOfOpened};

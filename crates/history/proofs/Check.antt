@@ -1,7 +1,7 @@
 -- What an accepted call tells of its buffers and of other calls. Assumes nothing.
 use mathlib.Core.Path.{_≡_, refl, sym, _∙_, ap₂}
 use mathlib.Core.Bool.{Bool, true, false, not}
-use mathlib.Core.List.{List, [], _∷_}
+use mathlib.Core.List.{List, []}
 use Prim.Native.Nat.{ℕ}
 use lib.Dec.{eqb}
 use lib.ListN.{length}
@@ -14,7 +14,7 @@ use Rattle.refusal.specs.Order.{_orElse_, refuseIf, ifAccepted}
 use Rattle.refusal.proofs.Order.{accepted-first, accepted-rest, accepted-equal}
 use Rattle.history.specs.Images.{Images, lengthOf, All, Inside}
 use Rattle.history.specs.Plan.{Relocatable, Plan, Sound, listCheck, fitCheck, planCheck, displacements, differences, builtImages}
-use Rattle.history.specs.Call.{Call, build, roomCheck, callCheck, accepted, effect, run, Accepts}
+use Rattle.history.specs.Call.{Call, build, roomCheck, callCheck, accepted, effect, Accepts}
 use Rattle.history.proofs.Apply.{applyAll-length, inside-lengths}
 
 -- ---- the parts of an accepted move

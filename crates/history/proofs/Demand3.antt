@@ -7,7 +7,7 @@ use lib.ListN.{length}
 use lib.IntN.{pos, _+ℤ_, +ℤ-idl}
 use Rattle.refusal.specs.declared.Verdict.{Verdict}
 use Rattle.refusal.specs.declared.Verdict.the-variants.{Accepted, Refused}
-use Rattle.history.specs.Images.{Images, Shifts, applyAll, lengthOf, All, Inside}
+use Rattle.history.specs.Images.{Images, Shifts, applyAll, All, Inside}
 use Rattle.history.specs.Plan.{Relocatable, Sound, displacements, differences, builtImages}
 use Rattle.history.specs.Call.{Call, build, callCheck, accepted, effect, run}
 use Rattle.history.specs.Book.{Book, firstBook, entered, enter, enterAll, bookAfter, imagesBy, bookImages}

@@ -11,7 +11,6 @@ use Rattle.refusal.specs.declared.Verdict.the-variants.{Accepted, Refused}
 use Rattle.refusal.specs.Order.{_orElse_, refuseIf, byVerdict, ifAccepted}
 use Rattle.history.specs.declared.CallAnswer.{CallAnswer}
 use Rattle.history.specs.declared.CallAnswer.the-variants as answer
-use Rattle.history.specs.declared.Reached.{Reached}
 use Rattle.history.specs.Images.{Images, applyAll}
 use Rattle.history.specs.Plan.{Relocatable, Plan, listCheck, fitCheck, planCheck, builtImages, differences, reachedBy}
 use mathlib.Core.Path.{_≡_}

@@ -16,7 +16,7 @@ use Rattle.history.specs.declared.Reached.{Reached}
 use Rattle.history.specs.declared.CallAnswer.{CallAnswer}
 use Rattle.history.specs.declared.CallAnswer.the-variants as answer
 use Rattle.history.specs.Images.{Images, applyAll}
-use Rattle.history.specs.Plan.{Relocatable, Plan, planCheck, builtImages, displacements, differences, reachedBy}
+use Rattle.history.specs.Plan.{Relocatable, Plan, planCheck, builtImages, displacements, reachedBy}
 use Rattle.history.specs.Call.{Call, build, planReached, callCheck, accepted, effect, answerOf}
 use Rattle.plan.specs.Relocatable.{relocationsFrom, relocatableOf, noModule, relocatableBy, relocatableAt}
 use Rattle.apply.specs.Shift.{shiftsBy}

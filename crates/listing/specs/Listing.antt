@@ -9,8 +9,6 @@ use Rattle.format.specs.declared.SectionKind.{SectionKind}
 use Rattle.format.specs.declared.SectionKind.the-variants.{Pad, Dwarf, Text, Data, Bss, Except, Info, Tdata, Tbss, Loader, Debug, Typchk, Ovrflo, Deleted}
 use Rattle.refusal.specs.declared.Refusal.{Refusal}
 use Rattle.refusal.specs.Refusal.{numberOf, itemOf}
-use Rattle.refusal.specs.declared.Verdict.{Verdict}
-use Rattle.refusal.specs.declared.Verdict.the-variants.{Accepted, Refused}
 use Rattle.section.specs.declared.Section.{Section}
 use Rattle.header.specs.declared.Summary.{Summary}
 use Rattle.header.specs.Open.{openOf}

@@ -10,7 +10,6 @@ use borrow.Author.Tests.{ltb-true}
 use Rattle.format.specs.declared.Format.{Format}
 use Rattle.format.specs.Limit.{fileLimit}
 use Rattle.refusal.specs.declared.Refusal.the-variants.{Overlap}
-use Rattle.refusal.specs.declared.Verdict.{Verdict}
 use Rattle.refusal.specs.declared.Verdict.the-variants as verdict
 use Rattle.refusal.specs.Order.{refuseIf}
 use Rattle.refusal.proofs.Order.{accepts, accepted-first, accepted-rest, accepted-test, first-all, by-verdict}

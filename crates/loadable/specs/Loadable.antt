@@ -3,8 +3,6 @@ use Prim.Native.Nat.{ℕ}
 use mathlib.Core.List.{List}
 use Rattle.format.specs.declared.Format.{Format}
 use Rattle.format.specs.declared.Format.the-variants.{Xcoff32, Xcoff64}
-use Rattle.refusal.specs.declared.Verdict.{Verdict}
-use Rattle.refusal.specs.declared.Verdict.the-variants as verdict
 use Rattle.refusal.specs.Refusal.{numberOf, itemOf}
 use Rattle.module.specs.declared.Module.{Module}
 use Rattle.module.specs.declared.ModuleAnswer.{ModuleAnswer}

@@ -1,8 +1,6 @@
 // The loadable module, judged whole: its sections, its loader section, and every relocation entry in order.
 ghost use mathlib.Core.Path.{_≡_};
-ghost use lib.ListN.{length};
 ghost use Rattle.relocation.specs.Relocation.{ownAt};
-ghost use Rattle.module.specs.Module.{moduleAt};
 ghost use Rattle.module.specs.Inside.{ModuleInside};
 ghost use Rattle.loadable.specs.Entries.{entriesCheck, FirstRefused, verdictAt, EntriesReady};
 ghost use Rattle.loadable.specs.Loadable.{loadableIn, loadableAt, reportOfModule, moduleReport};

@@ -1,13 +1,13 @@
 -- What the checks of the loader section leave known. Assumes nothing.
 use Prim.Native.Nat.{ℕ, _+_, _*_, _≤_}
-use mathlib.Core.Path.{_≡_, refl, sym, _∙_, subst}
-use mathlib.Core.Bool.{true, false, not, _||_}
+use mathlib.Core.Path.{_≡_, subst}
+use mathlib.Core.Bool.{false, not, _||_}
 use mathlib.Core.List.{List}
 use native.Mathlib.Decide.{ℕ-discrete}
 use native.Mathlib.Omega.{arith}
 use lib.Dec.{eqb, ltb}
 use lib.ListN.{length}
-use borrow.Author.Tests.{le-ltb, ltb-false}
+use borrow.Author.Tests.{ltb-false}
 use Rattle.word.proofs.Test.{or-first, or-second}
 use Rattle.word.specs.Zero.{zerosIn}
 use Rattle.format.specs.declared.Format.{Format}
@@ -16,11 +16,9 @@ use Rattle.format.specs.Limit.{fileLimit, loaderSymbolLimit, relocationLimit}
 use Rattle.format.specs.Range.{bytesOf}
 use Rattle.refusal.specs.declared.Refusal.the-variants.{Loader}
 use Rattle.refusal.specs.declared.LoaderItem.the-variants.{ShortHeader}
-use Rattle.refusal.specs.declared.Verdict.{Verdict}
 use Rattle.refusal.specs.declared.Verdict.the-variants.{Accepted, Refused}
-use Rattle.refusal.specs.Refusal.{isRefused}
 use Rattle.refusal.specs.Order.{_orElse_, refuseIf}
-use Rattle.refusal.proofs.Order.{test-passed, go-on, stop, accepted-first, accepted-rest, accepted-test, first-all, by-verdict}
+use Rattle.refusal.proofs.Order.{accepted-first, accepted-rest, accepted-test, first-all, by-verdict}
 use Rattle.loader_header.specs.declared.LoaderHeader.{LoaderHeader}
 use Rattle.loader_header.specs.Header.{loaderHeaderAt, tablePast, numbersCheck, placeOf, tablesOf, placesCheck, headerCheck, LoaderRoom, PlacesGood}
 use Rattle.module.specs.declared.Module.{Module}

@@ -2,7 +2,6 @@
 use Prim.Native.Nat.{ℕ}
 use mathlib.Core.List.{List}
 use Rattle.refusal.specs.declared.Verdict.{Verdict}
-use Rattle.refusal.specs.declared.Verdict.the-variants as verdict
 use Rattle.refusal.specs.Order.{_orElse_, firstOf, byVerdict}
 use Rattle.module.specs.declared.Module.{Module}
 use Rattle.loader_header.specs.declared.LoaderTables.{LoaderTables}

@@ -5,7 +5,6 @@ ghost use lib.Dec.{eqb};
 ghost use Prim.Native.Nat.{_+_, _*_, _≤_, _<_};
 ghost use lib.ListN.{length};
 ghost use Rattle.format.specs.Layout.{loaderSymbolLength};
-ghost use Rattle.format.specs.Range.{range};
 ghost use Rattle.loader_symbol.specs.Symbol.{entryAt, stringIn, nameIn, isFound, isPlaced, symbolCheck, TablesInside};
 use format::FileOffset;
 use format::FileRange;

@@ -8,7 +8,6 @@ use Rattle.refusal.specs.declared.IndexItem.the-variants.{NoLoaderSymbol}
 use Rattle.refusal.specs.declared.RangeAnswer.{RangeAnswer}
 use Rattle.refusal.specs.declared.RangeAnswer.the-variants as range
 use Rattle.refusal.specs.declared.Verdict.{Verdict}
-use Rattle.refusal.specs.declared.Verdict.the-variants as verdict
 use Rattle.refusal.specs.Order.{refuseIf, byVerdict}
 use Rattle.refusal.specs.Refusal.{numberOf, itemOf}
 use Rattle.loader_symbol.specs.declared.LoaderEntry.{LoaderEntry}

@@ -10,7 +10,6 @@ use lib.ListN.{length, getD}
 use borrow.Author.Tests.{ne-eqb, not-false}
 use Rattle.word.proofs.Test.{and-first, and-second, or-first, or-second}
 use Rattle.format.specs.Layout.{auxLayout}
-use Rattle.refusal.specs.declared.Verdict.{Verdict}
 use Rattle.refusal.specs.declared.Verdict.the-variants as verdict
 use Rattle.refusal.specs.Order.{refuseIf}
 use Rattle.refusal.proofs.Order.{accepted-first, accepted-rest, accepted-test, by-verdict}

@@ -8,7 +8,7 @@ ghost use Rattle.format.specs.Layout.{auxLayout};
 ghost use Rattle.format.specs.Limit.{dataImageLimit};
 ghost use Rattle.refusal.specs.Order.{_orElse_, byVerdict};
 ghost use Rattle.header.specs.Inside.{Inside};
-ghost use Rattle.parts.specs.Sections.{tally, talliesOf, oneEach, partsOf, threadCheck};
+ghost use Rattle.parts.specs.Sections.{talliesOf, oneEach, partsOf, threadCheck};
 ghost use Rattle.module.specs.Module.{lacksData, isAnchor, bssBelow, imageLength, partsCheck, auxOf, moduleWith, moduleIn, moduleAt};
 use auxiliary::AuxHeader;
 use format::Format;

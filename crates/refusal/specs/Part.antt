@@ -5,8 +5,6 @@ use Rattle.format.specs.declared.FileRange.{FileRange}
 use Rattle.format.specs.Range.{bytesOf}
 use Rattle.refusal.specs.declared.RangeAnswer.{RangeAnswer}
 use Rattle.refusal.specs.declared.RangeAnswer.the-variants.{Found, Refused}
-use Rattle.refusal.specs.declared.Verdict.{Verdict}
-use Rattle.refusal.specs.declared.Verdict.the-variants as verdict
 
 -- the very bytes of the file: none on a refusal
 abbrev pub rangeBytes : List ℕ → RangeAnswer → List ℕ

@@ -4,7 +4,7 @@ ghost use mathlib.Core.Bool.{true};
 ghost use Prim.Native.Nat.{_+_, _*_, _≤_, _<_};
 ghost use lib.ListN.{length};
 ghost use Rattle.format.specs.Layout.{relocationLayout};
-ghost use Rattle.relocation.specs.Relocation.{entryAt, isType, isWidth, widthBits, bytesWide, isWide, isInside, isHeld, isGood, ownCheck, placeOf, entryIn, ownAt, placeAt, EntriesInside};
+ghost use Rattle.relocation.specs.Relocation.{entryAt, isType, isWidth, bytesWide, isWide, isInside, isHeld, isGood, placeOf, entryIn, ownAt, placeAt, EntriesInside};
 use format::Format;
 use format::VirtualAddress;
 use loader_header::LoaderTables;

@@ -1,6 +1,6 @@
 // The answers of the public operations as C reads them: document 01's number (0: accepted) and item, then the values, all 0 on a refusal.
 ghost use mathlib.Core.Path.{_≡_};
-ghost use Rattle.refusal.specs.Refusal.{numberOf, itemOf, reportNumber, reportItem};
+ghost use Rattle.refusal.specs.Refusal.{reportNumber, reportItem};
 ghost use Rattle.header.specs.Open.{reportOfOpened};
 ghost use Rattle.section_lookup.specs.Lookup.{reportOfSection};
 ghost use Rattle.symbol_lookup.specs.Lookup.{scnumOf, reportOfSymbol};

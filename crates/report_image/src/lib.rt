@@ -1,6 +1,6 @@
 // The answers of builds, moves and plan sheets as C reads them: document 01's number (0: accepted) and item, then the values.
 ghost use mathlib.Core.Path.{_≡_};
-ghost use Rattle.refusal.specs.Refusal.{numberOf, itemOf, reportOfVerdict};
+ghost use Rattle.refusal.specs.Refusal.{reportOfVerdict};
 ghost use Rattle.image.specs.Report.{present, addressOf, reportOfCall};
 ghost use Rattle.sheet.specs.Sheet.{reportOfSheet};
 ghost use Rattle.report_image.specs.Report.{cCall, cSheet, cVerdict};

@@ -1,12 +1,9 @@
 -- A symbol table entry: what its 18 bytes hold.
 use Prim.Native.Nat.{ℕ, _+_, _*_, _≤_}
-use mathlib.Core.Bool.{cond}
 use mathlib.Core.List.{List}
-use lib.Dec.{eqb}
 use lib.ListN.{length}
 use Rattle.word.specs.Number.{fieldIn}
 use Rattle.format.specs.declared.Format.{Format}
-use Rattle.format.specs.declared.Format.the-variants.{Xcoff32, Xcoff64}
 use Rattle.format.specs.Limit.{fileLimit}
 use Rattle.format.specs.Name.{nameField}
 use Rattle.format.specs.Layout.{symbolLayout, symbolLength}

@@ -5,14 +5,11 @@ use mathlib.Core.Bool.{cond}
 use mathlib.Core.List.{List, [], _++_}
 use lib.Dec.{leb}
 use lib.ListN.{length}
-use Rattle.refusal.specs.declared.Verdict.{Verdict}
 use Rattle.refusal.specs.declared.Verdict.the-variants as verdict
-use Rattle.header.specs.declared.Opened.{Opened}
 use Rattle.header.specs.Open.{openOf}
 use Rattle.symbol.specs.declared.Tables.{Tables}
 use Rattle.symbol.specs.declared.SymbolAnswer.{SymbolAnswer}
 use Rattle.symbol.specs.declared.SymbolAnswer.the-variants as symbol
-use Rattle.walk.specs.declared.WalkEnd.{WalkEnd}
 use Rattle.walk.specs.declared.WalkAnswer.{WalkAnswer}
 use Rattle.walk.specs.declared.WalkAnswer.the-variants.{Ended, Refused}
 use Rattle.symbol.specs.Entry.{tablesOf}

@@ -6,7 +6,6 @@ use lib.Dec.{leb}
 use Rattle.refusal.specs.declared.Verdict.{Verdict}
 use Rattle.refusal.specs.declared.Verdict.the-variants as verdict
 use Rattle.refusal.specs.Refusal.{numberOf, itemOf, reportNumber, reportItem}
-use Rattle.header.specs.declared.Opened.{Opened}
 use Rattle.header.specs.Open.{openOf}
 use Rattle.symbol.specs.declared.Tables.{Tables}
 use Rattle.symbol.specs.declared.SymbolAnswer.{SymbolAnswer}
