@@ -4,7 +4,7 @@
 mod common;
 
 use common::plain::{Build, Move, ENTRIES};
-use common::turns::{by_turns, Work};
+use common::turns::by_turns;
 use std::time::Duration;
 use xcoff::Format;
 
@@ -30,16 +30,13 @@ fn moved(format: Format) {
     state.whole();
     state.plain();
     let same = state.same();
-    let works: [Work<Move>; 4] = [&Move::judge, &Move::whole, &Move::plain, &Move::judge_and_plain];
-    let [judge, whole, plain, both] = by_turns(TIME, &mut state, works);
+    let [judge, whole, plain] = by_turns(TIME, &mut state, [&Move::judge, &Move::whole, &Move::plain]);
     println!(
-        "{format:?} move of {ENTRIES} entries: {:.1} us, judging {:.1} us, plain loop {:.1} us: {:.2} without judging; after judging {:.1} us: {:.2}; same bytes: {same}",
+        "{format:?} move of {ENTRIES} entries: {:.1} us, judging {:.1} us, plain loop {:.1} us: {:.2} without judging; same bytes: {same}",
         whole / 1e3,
         judge / 1e3,
         plain / 1e3,
-        (whole - judge) / plain,
-        (both - judge) / 1e3,
-        (whole - judge) / (both - judge),
+        (whole - judge) / plain
     );
 }
 

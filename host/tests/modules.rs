@@ -3,7 +3,7 @@
 mod made;
 
 use made::{Entry, Module, Symbol};
-use xcoff::{Format, Refusal};
+use xcoff::{Format, Plan, Refusal};
 
 // ---- bench figures, in both formats
 
@@ -111,6 +111,33 @@ fn the_first_loader_symbol_has_index_3() {
         assert_eq!(judged(&m), None);
         m.entries[0].symbol = 4;
         assert_eq!(judged(&m), refused(17, 0));
+    }
+}
+
+/// Symbols 0 to 6: text, data, bss, and loader symbols in text, in data, imported and deferred.
+#[test]
+fn a_field_moves_with_what_its_symbol_follows() {
+    let plan = |text, data, import| Plan {
+        text,
+        data,
+        list: vec![0, 0, import, 0],
+    };
+    for format in FORMATS {
+        let mut m = Module::new(format);
+        m.symbols = vec![Symbol::Text, Symbol::Data, Symbol::Import, Symbol::Deferred];
+        m.entries = fields(2, &[0, 4, 8, 12, 16, 20, 24].map(|i| 0x2000_0000 + i));
+        for (i, e) in m.entries.iter_mut().enumerate() {
+            e.symbol = i as u32;
+        }
+        let (mut text, mut data) = (vec![0; 0x100], vec![0; 0x100]);
+        let (from, to) = (plan(0x1000, 0x4000, 0x9000), plan(0x1010, 0x4200, 0x8FFF));
+        xcoff::move_images(&m.bytes(), &from, &to, &mut text, &mut data).unwrap();
+        let words: Vec<u32> = data[..28]
+            .chunks_exact(4)
+            .map(|b| u32::from_be_bytes(b.try_into().unwrap()))
+            .collect();
+        assert_eq!(words, [0x10, 0x200, 0x200, 0x10, 0x200, u32::MAX, 0]);
+        assert!(text.iter().chain(&data[28..]).all(|&b| b == 0));
     }
 }
 

@@ -140,12 +140,6 @@ impl Move {
         black_box((&mut self.plain_text, &mut self.plain_data));
     }
 
-    /// The module check, and then the plain loop.
-    pub fn judge_and_plain(&mut self) {
-        self.judge();
-        self.plain();
-    }
-
     /// Whether both have the same bytes, after equally many calls.
     pub fn same(&self) -> bool {
         self.text == self.plain_text && self.data == self.plain_data
