@@ -124,18 +124,38 @@ impl Module {
         }
     }
 
-    /// The loader section: header, symbols, relocation entries, import ids, strings. There are two import ids where a symbol needs one.
+    /// The import ids: two where a symbol needs one.
+    fn import_ids(&self) -> &'static [u8] {
+        match self.symbols.iter().any(|s| matches!(s, Symbol::Import)) {
+            true => b"/lib\0\0\0\0libc.a\0shr.o\0",
+            false => b"",
+        }
+    }
+
+    /// The loader section: header, symbols, relocation entries, import ids, strings.
     fn loader(&self) -> Vec<u8> {
         let mut out = Writer {
             format: self.format,
             bytes: Vec::new(),
         };
+        self.loader_header(&mut out);
+        for symbol in &self.symbols {
+            self.loader_symbol(symbol, &mut out);
+        }
+        for entry in &self.entries {
+            out.relocation(entry);
+        }
+        out.bytes.extend(self.import_ids());
+        if self.format == Format::Xcoff64 {
+            out.bytes.extend(b"\0\x02s\0");
+        }
+        out.bytes
+    }
+
+    fn loader_header(&self, out: &mut Writer) {
         let count = self.symbols.len() as u64;
         let entries = self.entries.len() as u64;
-        let ids: &[u8] = match self.symbols.iter().any(|s| matches!(s, Symbol::Import)) {
-            true => b"/lib\0\0\0\0libc.a\0shr.o\0",
-            false => b"",
-        };
+        let ids = self.import_ids();
         out.u32(1);
         out.u32(count as u32);
         out.u32(entries as u32);
@@ -156,39 +176,24 @@ impl Module {
                 }
             }
         }
-        for symbol in &self.symbols {
-            let (value, section, kind, id) = symbol.fields(self);
-            match self.format {
-                Format::Xcoff32 => {
-                    out.bytes.extend(b"s\0\0\0\0\0\0\0");
-                    out.word(value);
-                }
-                Format::Xcoff64 => {
-                    out.word(value);
-                    out.u32(2);
-                }
+    }
+
+    fn loader_symbol(&self, symbol: &Symbol, out: &mut Writer) {
+        let (value, section, kind, id) = symbol.fields(self);
+        match self.format {
+            Format::Xcoff32 => {
+                out.bytes.extend(b"s\0\0\0\0\0\0\0");
+                out.word(value);
             }
-            out.u16(section);
-            out.bytes.extend([kind, 0]);
-            out.u32(id);
-            out.zeros(4);
-        }
-        for e in &self.entries {
-            out.word(e.address);
-            if self.format == Format::Xcoff32 {
-                out.u32(e.symbol);
-            }
-            out.u16(e.kind);
-            out.u16(e.section);
-            if self.format == Format::Xcoff64 {
-                out.u32(e.symbol);
+            Format::Xcoff64 => {
+                out.word(value);
+                out.u32(2);
             }
         }
-        out.bytes.extend(ids);
-        if self.format == Format::Xcoff64 {
-            out.bytes.extend(b"\0\x02s\0");
-        }
-        out.bytes
+        out.u16(section);
+        out.bytes.extend([kind, 0]);
+        out.u32(id);
+        out.zeros(4);
     }
 }
 
@@ -198,6 +203,18 @@ struct Writer {
 }
 
 impl Writer {
+    fn relocation(&mut self, e: &Entry) {
+        self.word(e.address);
+        if self.format == Format::Xcoff32 {
+            self.u32(e.symbol);
+        }
+        self.u16(e.kind);
+        self.u16(e.section);
+        if self.format == Format::Xcoff64 {
+            self.u32(e.symbol);
+        }
+    }
+
     fn zeros(&mut self, n: usize) {
         self.bytes.resize(self.bytes.len() + n, 0);
     }
