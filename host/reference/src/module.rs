@@ -163,141 +163,195 @@ fn id_strings(file: &[u8], loaded: &Loaded) -> Vec<Range<usize>> {
 pub(crate) fn load(file: &[u8]) -> Result<Loaded, Refusal> {
     let summary = open(file)?;
     let bits = summary.bits;
-
-    // MODULE 0.
-    if summary.opthdr < by(bits, 72, 110) as u64 {
-        return refuse(MODULE, 0);
-    }
-
-    // MODULE 1: exactly one each.
-    let text_number = only(&summary, opening::TEXT)?;
-    let data_number = only(&summary, opening::DATA)?;
-    let bss_number = only(&summary, opening::BSS)?;
-    let loader_number = only(&summary, opening::LOADER)?;
-
-    // THREAD, the lowest section first.
-    for (i, section) in summary.sections.iter().enumerate() {
-        if section.flags == opening::TDATA || section.flags == opening::TBSS {
-            return refuse(THREAD, i as u64 + 1);
-        }
-    }
-
-    let text = &summary.sections[text_number as usize - 1];
-    let data = &summary.sections[data_number as usize - 1];
-    let bss = &summary.sections[bss_number as usize - 1];
-    let loader = &summary.sections[loader_number as usize - 1];
-
-    // MODULE 2: the auxiliary header, 002 table 2.
-    let aux = file_header(bits);
-    let word = by(bits, 4, 8);
-    let same = number(file, aux + 34, 2) == text_number
-        && number(file, aux + 36, 2) == data_number
-        && number(file, aux + 42, 2) == bss_number
-        && number(file, aux + 40, 2) == loader_number
-        && number(file, aux + by(bits, 4, 56), word) == text.size
-        && number(file, aux + by(bits, 8, 64), word) == data.size
-        && number(file, aux + by(bits, 12, 72), word) == bss.size
-        && number(file, aux + by(bits, 20, 8), word) == text.paddr
-        && number(file, aux + by(bits, 24, 16), word) == data.paddr;
-    if !same {
-        return refuse(MODULE, 2);
-    }
-
-    // MODULE 3.
-    for section in [text, data, loader] {
-        if section.size != 0 && section.raw.is_none() {
-            return refuse(MODULE, 3);
-        }
-    }
-
-    // MODULE 4.
-    let entry_section = number(file, aux + 32, 2);
-    let toc_section = number(file, aux + 38, 2);
-    for number in [entry_section, toc_section] {
-        if number != 0 && number != text_number && number != data_number {
-            return refuse(MODULE, 4);
-        }
-    }
-
-    // The data image.
-    let data_image = if bss.size == 0 {
-        u128::from(data.size)
-    } else {
-        if u128::from(bss.paddr) < u128::from(data.paddr) + u128::from(data.size) {
-            return refuse(ADDRESS, bss_number);
-        }
-        u128::from(bss.paddr - data.paddr) + u128::from(bss.size)
-    };
-    if data_image > u128::from(IMAGE_LIMIT) {
-        return refuse(LIMIT, 4);
-    }
+    let parts = read_parts(&summary)?;
+    let aux = read_aux_header(file, bits);
+    judge_aux_header(&aux, &parts)?;
+    judge_raw_data(&parts)?;
+    judge_places(&aux, &parts)?;
+    let data_image = read_data_image(&parts)?;
 
     // The loader section: header and tables, then symbols, then entries.
-    let tables = read_tables(file, bits, &raw_of(loader))?;
-    let numbers = [text_number, data_number, bss_number];
-    let mut symbols = Vec::new();
-    for i in 0..tables.symbol_count {
-        symbols.push(read_symbol(file, bits, &tables, numbers, i)?);
-    }
-    let mut entries: Vec<Relocation> = Vec::new();
-    for i in 0..tables.relocation_count {
-        let entry = read_relocation(file, bits, &tables, i)?;
-        judge_relocation(
-            &entry,
-            i,
-            tables.symbol_count,
-            (text_number, text),
-            (data_number, data),
-            bits,
-        )?;
-        judge_overlap(&entry, i, &entries)?;
-        entries.push(entry);
-    }
-
+    let tables = read_tables(file, bits, &raw_of(parts.loader.section))?;
+    let symbols = read_symbols(file, bits, &tables, &parts)?;
+    let entries = read_relocations(file, bits, &tables, &parts)?;
     Ok(Loaded {
-        module: Module {
-            bits,
-            text: text_number,
-            data: data_number,
-            bss: bss_number,
-            loader: loader_number,
-            text_address: text.paddr,
-            data_address: data.paddr,
-            bss_address: bss.paddr,
-            text_size: text.size,
-            data_size: data.size,
-            bss_size: bss.size,
-            data_image: data_image as u64,
-            loader_symbols: tables.symbol_count,
-            relocations: tables.relocation_count,
-            import_ids: tables.id_count,
-            entry_section,
-            entry_address: number(file, aux + by(bits, 16, 80), word),
-            toc_section,
-            toc_address: number(file, aux + by(bits, 28, 24), word),
-        },
-        text: raw_of(text),
-        data: raw_of(data),
+        module: facts(bits, &parts, &aux, &tables, data_image),
+        text: raw_of(parts.text.section),
+        data: raw_of(parts.data.section),
         symbols,
         entries,
         ids: tables.ids,
     })
 }
 
-/// The number of the only section with this kind; MODULE 1 if it isn't alone.
-fn only(summary: &Summary, flags: u64) -> Result<u64, Refusal> {
-    let mut found = 0;
-    let mut count = 0;
+/// A section with its number.
+struct Part<'a> {
+    number: u64,
+    section: &'a Section,
+}
+
+/// The sections that a module has once each.
+struct Parts<'a> {
+    text: Part<'a>,
+    data: Part<'a>,
+    bss: Part<'a>,
+    loader: Part<'a>,
+}
+
+/// MODULE 0, MODULE 1 and THREAD.
+fn read_parts(summary: &Summary) -> Result<Parts<'_>, Refusal> {
+    if summary.opthdr < by(summary.bits, 72, 110) as u64 {
+        return refuse(MODULE, 0);
+    }
+
+    // Exactly one each.
+    let parts = Parts {
+        text: only(summary, opening::TEXT)?,
+        data: only(summary, opening::DATA)?,
+        bss: only(summary, opening::BSS)?,
+        loader: only(summary, opening::LOADER)?,
+    };
+
+    // The lowest section first.
     for (i, section) in summary.sections.iter().enumerate() {
-        if section.flags == flags {
-            found = i as u64 + 1;
-            count += 1;
+        if section.flags == opening::TDATA || section.flags == opening::TBSS {
+            return refuse(THREAD, i as u64 + 1);
         }
     }
-    if count != 1 {
-        return refuse(MODULE, 1);
+    Ok(parts)
+}
+
+/// The auxiliary header, 002 table 2.
+struct AuxHeader {
+    text_size: u64,
+    data_size: u64,
+    bss_size: u64,
+    entry: u64,
+    text_start: u64,
+    data_start: u64,
+    toc: u64,
+    /// Section numbers.
+    entry_section: u64,
+    text: u64,
+    data: u64,
+    toc_section: u64,
+    loader: u64,
+    bss: u64,
+}
+
+fn read_aux_header(file: &[u8], bits: u64) -> AuxHeader {
+    let aux = file_header(bits);
+    let word = |narrow, wide| number(file, aux + by(bits, narrow, wide), by(bits, 4, 8));
+    let section = |at| number(file, aux + at, 2);
+    AuxHeader {
+        text_size: word(4, 56),
+        data_size: word(8, 64),
+        bss_size: word(12, 72),
+        entry: word(16, 80),
+        text_start: word(20, 8),
+        data_start: word(24, 16),
+        toc: word(28, 24),
+        entry_section: section(32),
+        text: section(34),
+        data: section(36),
+        toc_section: section(38),
+        loader: section(40),
+        bss: section(42),
     }
-    Ok(found)
+}
+
+/// MODULE 2: the auxiliary header says what the section headers say.
+fn judge_aux_header(aux: &AuxHeader, parts: &Parts) -> Result<(), Refusal> {
+    let (text, data, bss) = (&parts.text, &parts.data, &parts.bss);
+    let numbers = [text.number, data.number, bss.number, parts.loader.number];
+    let sizes = [text.section.size, data.section.size, bss.section.size];
+    let starts = [text.section.paddr, data.section.paddr];
+    let same = [aux.text, aux.data, aux.bss, aux.loader] == numbers
+        && [aux.text_size, aux.data_size, aux.bss_size] == sizes
+        && [aux.text_start, aux.data_start] == starts;
+    if !same {
+        return refuse(MODULE, 2);
+    }
+    Ok(())
+}
+
+/// MODULE 3.
+fn judge_raw_data(parts: &Parts) -> Result<(), Refusal> {
+    for part in [&parts.text, &parts.data, &parts.loader] {
+        if part.section.size != 0 && part.section.raw.is_none() {
+            return refuse(MODULE, 3);
+        }
+    }
+    Ok(())
+}
+
+/// MODULE 4: entry and TOC.
+fn judge_places(aux: &AuxHeader, parts: &Parts) -> Result<(), Refusal> {
+    for number in [aux.entry_section, aux.toc_section] {
+        if number != 0 && number != parts.text.number && number != parts.data.number {
+            return refuse(MODULE, 4);
+        }
+    }
+    Ok(())
+}
+
+/// The length of the data image: ADDRESS and LIMIT 4.
+fn read_data_image(parts: &Parts) -> Result<u64, Refusal> {
+    let (data, bss) = (parts.data.section, parts.bss.section);
+    let length = if bss.size == 0 {
+        u128::from(data.size)
+    } else {
+        if u128::from(bss.paddr) < u128::from(data.paddr) + u128::from(data.size) {
+            return refuse(ADDRESS, parts.bss.number);
+        }
+        u128::from(bss.paddr - data.paddr) + u128::from(bss.size)
+    };
+    if length > u128::from(IMAGE_LIMIT) {
+        return refuse(LIMIT, 4);
+    }
+    Ok(length as u64)
+}
+
+fn facts(bits: u64, parts: &Parts, aux: &AuxHeader, tables: &Tables, data_image: u64) -> Module {
+    Module {
+        bits,
+        text: parts.text.number,
+        data: parts.data.number,
+        bss: parts.bss.number,
+        loader: parts.loader.number,
+        text_address: parts.text.section.paddr,
+        data_address: parts.data.section.paddr,
+        bss_address: parts.bss.section.paddr,
+        text_size: parts.text.section.size,
+        data_size: parts.data.section.size,
+        bss_size: parts.bss.section.size,
+        data_image,
+        loader_symbols: tables.symbol_count,
+        relocations: tables.relocation_count,
+        import_ids: tables.id_count,
+        entry_section: aux.entry_section,
+        entry_address: aux.entry,
+        toc_section: aux.toc_section,
+        toc_address: aux.toc,
+    }
+}
+
+/// The only section with this kind; MODULE 1 if it isn't alone.
+fn only(summary: &Summary, flags: u64) -> Result<Part<'_>, Refusal> {
+    let mut found = None;
+    for (i, section) in summary.sections.iter().enumerate() {
+        if section.flags == flags {
+            if found.is_some() {
+                return refuse(MODULE, 1);
+            }
+            let number = i as u64 + 1;
+            found = Some(Part { number, section });
+        }
+    }
+    match found {
+        Some(part) => Ok(part),
+        None => refuse(MODULE, 1),
+    }
 }
 
 /// Raw data in the file; empty where there is none.
@@ -319,61 +373,71 @@ struct Tables {
     strings: Range<usize>,
 }
 
+/// The loader section's header, with what XCOFF32 leaves to be worked out.
+struct LoaderHeader {
+    version: u64,
+    symbol_count: u64,
+    relocation_count: u64,
+    id_length: u64,
+    id_count: u64,
+    string_length: u64,
+    id_offset: u64,
+    string_offset: u64,
+    symbol_offset: u64,
+    relocation_offset: u64,
+}
+
+/// The header at the start of the loader section.
+fn read_loader_header(file: &[u8], bits: u64, at: usize) -> LoaderHeader {
+    let symbol_count = number(file, at + 4, 4);
+    let (symbol_offset, relocation_offset) = if bits == 32 {
+        (32, 32 + 24 * symbol_count)
+    } else {
+        (number(file, at + 40, 8), number(file, at + 48, 8))
+    };
+    LoaderHeader {
+        version: number(file, at, 4),
+        symbol_count,
+        relocation_count: number(file, at + 8, 4),
+        id_length: number(file, at + 12, 4),
+        id_count: number(file, at + 16, 4),
+        string_length: number(file, at + by(bits, 24, 20), 4),
+        id_offset: number(file, at + by(bits, 20, 24), by(bits, 4, 8)),
+        string_offset: number(file, at + by(bits, 28, 32), by(bits, 4, 8)),
+        symbol_offset,
+        relocation_offset,
+    }
+}
+
+/// LOADER, and LIMIT 2 and 3.
 fn read_tables(file: &[u8], bits: u64, loader: &Range<usize>) -> Result<Tables, Refusal> {
-    let header = by(bits, 32, 56);
-    if loader.len() < header {
+    if loader.len() < by(bits, 32, 56) {
         return refuse(LOADER, 0);
     }
-    let at = loader.start;
-    let version = number(file, at, 4);
-    let symbol_count = number(file, at + 4, 4);
-    let relocation_count = number(file, at + 8, 4);
-    let id_length = number(file, at + 12, 4);
-    let id_count = number(file, at + 16, 4);
-    let string_length = number(file, at + by(bits, 24, 20), 4);
-    let entry_length = by(bits, 12, 16) as u64;
-    let (id_offset, string_offset, symbol_offset, relocation_offset) = if bits == 32 {
-        (
-            number(file, at + 20, 4),
-            number(file, at + 28, 4),
-            32,
-            32 + 24 * symbol_count,
-        )
-    } else {
-        (
-            number(file, at + 24, 8),
-            number(file, at + 32, 8),
-            number(file, at + 40, 8),
-            number(file, at + 48, 8),
-        )
-    };
-
-    if version != 1 && version != 2 {
+    let header = read_loader_header(file, bits, loader.start);
+    if header.version != 1 && header.version != 2 {
         return refuse(LOADER, 1);
     }
-    if symbol_count > LOADER_SYMBOL_LIMIT {
+    if header.symbol_count > LOADER_SYMBOL_LIMIT {
         return refuse(LIMIT, 2);
     }
-    if relocation_count > RELOCATION_LIMIT {
+    if header.relocation_count > RELOCATION_LIMIT {
         return refuse(LIMIT, 3);
     }
-    let symbols = table(loader, symbol_offset, 24 * symbol_count, 2)?;
-    let relocations = table(
-        loader,
-        relocation_offset,
-        entry_length * relocation_count,
-        3,
-    )?;
-    let ids = table(loader, id_offset, id_length, 4)?;
+    let symbols_length = 24 * header.symbol_count;
+    let symbols = table(loader, header.symbol_offset, symbols_length, 2)?;
+    let relocations_length = by(bits, 12, 16) as u64 * header.relocation_count;
+    let relocations = table(loader, header.relocation_offset, relocations_length, 3)?;
+    let ids = table(loader, header.id_offset, header.id_length, 4)?;
     let zeros = file[ids.clone()].iter().filter(|&&byte| byte == 0).count();
-    if (zeros as u64) < 3 * id_count {
+    if (zeros as u64) < 3 * header.id_count {
         return refuse(LOADER, 4);
     }
-    let strings = table(loader, string_offset, string_length, 5)?;
+    let strings = table(loader, header.string_offset, header.string_length, 5)?;
     Ok(Tables {
-        symbol_count,
-        relocation_count,
-        id_count,
+        symbol_count: header.symbol_count,
+        relocation_count: header.relocation_count,
+        id_count: header.id_count,
         symbols,
         relocations,
         ids,
@@ -398,63 +462,79 @@ fn table(
     Ok(start..start + length as usize)
 }
 
-/// The `i`-th loader symbol of the table, whose index is `i` + 3.
+/// All loader symbols.
+fn read_symbols(
+    file: &[u8],
+    bits: u64,
+    tables: &Tables,
+    parts: &Parts,
+) -> Result<Vec<LoaderSymbol>, Refusal> {
+    let mut symbols = Vec::new();
+    for i in 0..tables.symbol_count {
+        symbols.push(read_symbol(file, bits, tables, parts, i)?);
+    }
+    Ok(symbols)
+}
+
+/// The `i`-th loader symbol of the table, whose index is `i` + 3: LSYM.
 fn read_symbol(
     file: &[u8],
     bits: u64,
     tables: &Tables,
-    numbers: [u64; 3],
+    parts: &Parts,
     i: u64,
 ) -> Result<LoaderSymbol, Refusal> {
     let index = i + 3;
     let at = tables.symbols.start + 24 * i as usize;
-    let section = number(file, at + 12, 2);
-    let kind = number(file, at + 14, 1);
-    let file_id = number(file, at + 16, 4);
-
-    if kind & 7 > 3 {
-        return refuse(LSYM, index);
-    }
-    if kind & 0x40 != 0 {
-        if section != 0 {
-            return refuse(LSYM, index);
-        }
-        if file_id != 0 && file_id >= tables.id_count {
-            return refuse(LSYM, index);
-        }
-    } else {
-        if file_id != 0 {
-            return refuse(LSYM, index);
-        }
-        if !numbers.contains(&section) {
-            return refuse(LSYM, index);
-        }
-    }
-
-    let name = if bits == 32 && number(file, at, 4) != 0 {
-        short_name(file, at)
-    } else {
-        let offset = number(file, at + by(bits, 4, 8), 4);
-        match string_name(file, &tables.strings, offset) {
-            Some(name) => name,
-            None => return refuse(LSYM, index),
-        }
-    };
-
-    Ok(LoaderSymbol {
+    let mut symbol = LoaderSymbol {
         index,
-        value: if bits == 32 {
-            number(file, at + 8, 4)
-        } else {
-            number(file, at, 8)
-        },
-        section,
-        kind,
+        value: number(file, at + by(bits, 8, 0), by(bits, 4, 8)),
+        section: number(file, at + 12, 2),
+        kind: number(file, at + 14, 1),
         class: number(file, at + 15, 1),
-        file_id,
+        file_id: number(file, at + 16, 4),
         parameter: number(file, at + 20, 4),
-        name,
-    })
+        name: 0..0,
+    };
+    judge_symbol(&symbol, tables.id_count, parts)?;
+    symbol.name = match symbol_name(file, bits, tables, at) {
+        Some(name) => name,
+        None => return refuse(LSYM, index),
+    };
+    Ok(symbol)
+}
+
+/// LSYM for all but the name.
+fn judge_symbol(symbol: &LoaderSymbol, id_count: u64, parts: &Parts) -> Result<(), Refusal> {
+    if symbol.kind & 7 > 3 {
+        return refuse(LSYM, symbol.index);
+    }
+    if symbol.imported() {
+        if symbol.section != 0 {
+            return refuse(LSYM, symbol.index);
+        }
+        if symbol.file_id != 0 && symbol.file_id >= id_count {
+            return refuse(LSYM, symbol.index);
+        }
+    } else {
+        if symbol.file_id != 0 {
+            return refuse(LSYM, symbol.index);
+        }
+        let numbers = [parts.text.number, parts.data.number, parts.bss.number];
+        if !numbers.contains(&symbol.section) {
+            return refuse(LSYM, symbol.index);
+        }
+    }
+    Ok(())
+}
+
+/// The name of the loader symbol at `at`: in its entry, or in the string table.
+fn symbol_name(file: &[u8], bits: u64, tables: &Tables, at: usize) -> Option<Range<usize>> {
+    if bits == 32 && number(file, at, 4) != 0 {
+        return Some(short_name(file, at));
+    }
+    let offset = number(file, at + by(bits, 4, 8), 4);
+    string_name(file, &tables.strings, offset)
 }
 
 /// A name of the loader's string table, without its closing zero.
@@ -475,6 +555,23 @@ fn string_name(file: &[u8], strings: &Range<usize>, offset: u64) -> Option<Range
         return None;
     }
     Some(start..last)
+}
+
+/// All relocation entries, each judged with those before it.
+fn read_relocations(
+    file: &[u8],
+    bits: u64,
+    tables: &Tables,
+    parts: &Parts,
+) -> Result<Vec<Relocation>, Refusal> {
+    let mut entries = Vec::new();
+    for i in 0..tables.relocation_count {
+        let entry = read_relocation(file, bits, tables, i)?;
+        judge_relocation(&entry, i, tables.symbol_count, parts, bits)?;
+        judge_overlap(&entry, i, &entries)?;
+        entries.push(entry);
+    }
+    Ok(entries)
 }
 
 /// The `i`-th relocation entry; THREAD.
@@ -505,17 +602,16 @@ fn judge_relocation(
     entry: &Relocation,
     i: u64,
     symbol_count: u64,
-    text: (u64, &Section),
-    data: (u64, &Section),
+    parts: &Parts,
     bits: u64,
 ) -> Result<(), Refusal> {
     if !type_allowed(entry.kind, bits) {
         return refuse(LREL, i);
     }
-    let section = if entry.section == text.0 {
-        text.1
-    } else if entry.section == data.0 {
-        data.1
+    let section = if entry.section == parts.text.number {
+        parts.text.section
+    } else if entry.section == parts.data.number {
+        parts.data.section
     } else {
         return refuse(LREL, i);
     };

@@ -90,20 +90,7 @@ pub(crate) fn section_header(bits: u64) -> usize {
 
 /// Opens a file.
 pub fn open(file: &[u8]) -> Result<Summary, Refusal> {
-    if file.len() as u64 > FILE_LIMIT {
-        return refuse(LIMIT, 0);
-    }
-    if file.len() < 2 {
-        return refuse(SHORT, 0);
-    }
-    let bits = match number(file, 0, 2) {
-        0x01DF => 32,
-        0x01F7 => 64,
-        _ => return refuse(MAGIC, 0),
-    };
-    if file.len() < file_header(bits) {
-        return refuse(SHORT, 0);
-    }
+    let bits = read_format(file)?;
     let count = number(file, 2, 2);
     if count > SECTION_LIMIT {
         return refuse(LIMIT, 1);
@@ -134,61 +121,82 @@ pub fn open(file: &[u8]) -> Result<Summary, Refusal> {
     })
 }
 
+/// 32 or 64, for a file that holds its whole file header.
+fn read_format(file: &[u8]) -> Result<u64, Refusal> {
+    if file.len() as u64 > FILE_LIMIT {
+        return refuse(LIMIT, 0);
+    }
+    if file.len() < 2 {
+        return refuse(SHORT, 0);
+    }
+    let bits = match number(file, 0, 2) {
+        0x01DF => 32,
+        0x01F7 => 64,
+        _ => return refuse(MAGIC, 0),
+    };
+    if file.len() < file_header(bits) {
+        return refuse(SHORT, 0);
+    }
+    Ok(bits)
+}
+
 /// Section `n`, whose header is at `at`: KIND, BOUNDS, ADDRESS.
 fn read_section(file: &[u8], bits: u64, n: u64, at: usize) -> Result<Section, Refusal> {
     let word = by(bits, 4, 8);
-    let paddr = number(file, at + 8, word);
-    let vaddr = number(file, at + by(bits, 12, 16), word);
-    let size = number(file, at + by(bits, 16, 24), word);
-    let scnptr = number(file, at + by(bits, 20, 32), word);
     let whole_flags = number(file, at + by(bits, 36, 64), 4);
-
+    let mut section = Section {
+        paddr: number(file, at + 8, word),
+        vaddr: number(file, at + by(bits, 12, 16), word),
+        size: number(file, at + by(bits, 16, 24), word),
+        scnptr: number(file, at + by(bits, 20, 32), word),
+        flags: whole_flags,
+        whole_flags,
+        raw: None,
+    };
     // Deleted: accepted, not examined, and no raw data.
-    if whole_flags == DELETED {
-        return Ok(Section {
-            paddr,
-            vaddr,
-            size,
-            scnptr,
-            flags: DELETED,
-            whole_flags,
-            raw: None,
-        });
+    if whole_flags != DELETED {
+        section.flags = read_kind(n, whole_flags)?;
+        section.raw = read_raw(file, n, &section)?;
+        judge_address(bits, n, &section)?;
     }
+    Ok(section)
+}
 
+/// The kind's flag: KIND.
+fn read_kind(n: u64, whole_flags: u64) -> Result<u64, Refusal> {
     let flags = whole_flags & 0xFFFF;
     let high = whole_flags >> 16;
     let known = KINDS.iter().any(|&(flag, _)| flag == flags);
     if !known || (high != 0 && flags != DWARF) {
         return refuse(KIND, n);
     }
+    Ok(flags)
+}
 
-    let mut raw = None;
-    if scnptr != 0 && flags != BSS && flags != TBSS && flags != OVRFLO {
-        if u128::from(scnptr) + u128::from(size) > file.len() as u128 {
-            return refuse(BOUNDS, n);
-        }
-        raw = Some(scnptr as usize..scnptr as usize + size as usize);
+/// Where the raw data of section `n` lies: BOUNDS.
+fn read_raw(file: &[u8], n: u64, section: &Section) -> Result<Option<Range<usize>>, Refusal> {
+    let (scnptr, size) = (section.scnptr, section.size);
+    if scnptr == 0 || [BSS, TBSS, OVRFLO].contains(&section.flags) {
+        return Ok(None);
     }
-
-    if flags == TEXT || flags == DATA || flags == BSS {
-        if vaddr != paddr {
-            return refuse(ADDRESS, n);
-        }
-        if u128::from(paddr) + u128::from(size) > top(bits) {
-            return refuse(ADDRESS, n);
-        }
+    if u128::from(scnptr) + u128::from(size) > file.len() as u128 {
+        return refuse(BOUNDS, n);
     }
+    Ok(Some(scnptr as usize..scnptr as usize + size as usize))
+}
 
-    Ok(Section {
-        paddr,
-        vaddr,
-        size,
-        scnptr,
-        flags,
-        whole_flags,
-        raw,
-    })
+/// ADDRESS for section `n`.
+fn judge_address(bits: u64, n: u64, section: &Section) -> Result<(), Refusal> {
+    if ![TEXT, DATA, BSS].contains(&section.flags) {
+        return Ok(());
+    }
+    if section.vaddr != section.paddr {
+        return refuse(ADDRESS, n);
+    }
+    if u128::from(section.paddr) + u128::from(section.size) > top(bits) {
+        return refuse(ADDRESS, n);
+    }
+    Ok(())
 }
 
 /// The symbol table's bounds, then the string table that follows at once.
