@@ -65,29 +65,17 @@ pub fn arguments(op: &Op) -> String {
         | Op::ImportBase(n)
         | Op::ImportMember(n) => n.to_string(),
         Op::Build { plan, text, data } => {
-            format!("{} text={} data={}", plan_text(plan), hex(text), hex(data))
+            format!("{} {}", plan_text(plan), lent_text(text, data))
         }
         Op::Move {
             from,
             to,
             text,
             data,
-        } => format!(
-            "{} {} text={} data={}",
-            plan_text(from),
-            plan_text(to),
-            hex(text),
-            hex(data)
-        ),
+        } => format!("{} {}", move_text(from, to), lent_text(text, data)),
         Op::Calls { calls, text, data } => {
-            let all: Vec<String> = calls
-                .iter()
-                .map(|call| match call {
-                    Call::Build(plan) => format!("build {}", plan_text(plan)),
-                    Call::Move(from, to) => format!("move {} {}", plan_text(from), plan_text(to)),
-                })
-                .collect();
-            format!("text={} data={} {}", hex(text), hex(data), all.join(" / "))
+            let all: Vec<String> = calls.iter().map(call_text).collect();
+            format!("{} {}", lent_text(text, data), all.join(" / "))
         }
         Op::ReadSheet { sheet, list } => format!("{} {}", hex(sheet), bracketed(list)),
         Op::WriteSheet {
@@ -99,6 +87,22 @@ pub fn arguments(op: &Op) -> String {
             format!("{text:x},{data:x},{} {}", bracketed(list), hex(sheet))
         }
         _ => String::new(),
+    }
+}
+
+/// The lent buffers as they are before the call.
+fn lent_text(text: &[u8], data: &[u8]) -> String {
+    format!("text={} data={}", hex(text), hex(data))
+}
+
+fn move_text(from: &Plan, to: &Plan) -> String {
+    format!("{} {}", plan_text(from), plan_text(to))
+}
+
+fn call_text(call: &Call) -> String {
+    match call {
+        Call::Build(plan) => format!("build {}", plan_text(plan)),
+        Call::Move(from, to) => format!("move {}", move_text(from, to)),
     }
 }
 
