@@ -85,46 +85,64 @@ fn check_verdict(check: &mut Check, line: &str, file: &[u8]) {
     check.same(name, "kinds", kinds_text(&summary), parts[1].to_string());
     let symbols: Vec<&str> = parts[2].split_whitespace().collect();
     check.same(name, "aux", Some(summary.opthdr), after(&symbols, "aux"));
-    let walked = walk(file).expect("it opened");
-    match symbols.iter().position(|&word| word == "alone:") {
-        Some(at) => {
-            check.same(
-                name,
-                "walked",
-                walked.visited.to_string(),
-                symbols[at + 1].to_string(),
-            );
-            check.same(
-                name,
-                "walk's end",
-                walked.refusal,
-                refusal_at(&symbols[at + 4..]),
-            );
-        }
-        None => {
-            check.same(
-                name,
-                "walked",
-                Some(walked.visited),
-                after(&symbols, "syms"),
-            );
-            check.same(name, "walk's end", walked.refusal, None);
-            check.same(name, "walk's index", walked.end, summary.symbols);
-        }
-    }
-
-    let result = module(file);
+    check_walk(check, name, file, &symbols);
     if words[3] != "OK" {
-        check.same(name, "module", result.err(), refusal_at(&words[3..]));
+        check.same(name, "module", module(file).err(), refusal_at(&words[3..]));
         return;
     }
-    let m = match result {
-        Ok(m) => m,
-        Err(refusal) => {
-            check.same(name, "module", Some(refusal), None);
-            return;
+    match module(file) {
+        Ok(m) => check_module(check, line, file, &m),
+        Err(refusal) => check.same(name, "module", Some(refusal), None),
+    }
+}
+
+/// The walk against the words of the line's part about symbols.
+fn check_walk(check: &mut Check, name: &str, file: &[u8], words: &[&str]) {
+    let found = walk(file).expect("it opened");
+    if let Some(at) = words.iter().position(|&word| word == "alone:") {
+        let visited = found.visited.to_string();
+        check.same(name, "walked", visited, words[at + 1].to_string());
+        let end = refusal_at(&words[at + 4..]);
+        check.same(name, "walk's end", found.refusal, end);
+    } else {
+        let all = open(file).expect("it opened").symbols;
+        let visited = after(words, "syms");
+        check.same(name, "walked", Some(found.visited), visited);
+        check.same(name, "walk's end", found.refusal, None);
+        check.same(name, "walk's index", found.end, all);
+    }
+}
+
+/// An accepted module against its line.
+fn check_module(check: &mut Check, line: &str, file: &[u8], m: &Module) {
+    let words: Vec<&str> = line.split_whitespace().collect();
+    let name = words[0];
+    let numbers = |check: &mut Check, all: &[(&str, u64, &str)]| {
+        for &(what, mine, key) in all {
+            check.same(name, what, Some(mine), after(&words[4..], key));
         }
     };
+    let (imports, deferred) = imports(file);
+    let tables = [
+        ("loader symbols", m.loader_symbols, "lsym"),
+        ("imports", imports, "imp"),
+        ("deferred", deferred, "def"),
+        ("ids", m.import_ids, "ids"),
+        ("entries", m.relocations, "lrel"),
+    ];
+    numbers(check, &tables);
+    check_entries(check, name, line, file, m);
+    let places = [
+        ("entry section", m.entry_section, "ent"),
+        ("TOC section", m.toc_section, "toc"),
+        ("bss", m.bss_size, "bss"),
+        ("gap", gap(m), "gap"),
+    ];
+    numbers(check, &places);
+}
+
+/// How many imports, and how many deferred ones.
+fn imports(file: &[u8]) -> (u64, u64) {
     let mut imports = 0;
     let mut deferred = 0;
     for symbol in loader_symbols(file).expect("an accepted module") {
@@ -134,11 +152,16 @@ fn check_verdict(check: &mut Check, line: &str, file: &[u8]) {
             imports += 1;
         }
     }
+    (imports, deferred)
+}
+
+/// How many entries lie in text, and how many are of each type.
+fn check_entries(check: &mut Check, name: &str, line: &str, file: &[u8], m: &Module) {
     let entries = relocations(file).expect("an accepted module");
     let in_text = entries
         .iter()
         .filter(|entry| entry.section == m.text)
-        .count() as u64;
+        .count();
     let mut types: BTreeMap<u64, u64> = BTreeMap::new();
     for entry in &entries {
         *types.entry(entry.kind).or_insert(0) += 1;
@@ -147,47 +170,19 @@ fn check_verdict(check: &mut Check, line: &str, file: &[u8]) {
         .iter()
         .map(|(kind, n)| format!("{kind:04x}:{n}"))
         .collect();
-    let gap = if m.bss_size == 0 {
+    let recorded = line.contains(&format!("(text {in_text}) "));
+    check.same(name, "entries in text", true, recorded);
+    let recorded = line.contains(&format!(" {} ent ", types.join(",")));
+    check.same(name, "types", true, recorded);
+}
+
+/// Bytes between data and bss.
+fn gap(m: &Module) -> u64 {
+    if m.bss_size == 0 {
         0
     } else {
         m.bss_address - m.data_address - m.data_size
-    };
-    check.same(
-        name,
-        "loader symbols",
-        Some(m.loader_symbols),
-        after(&words, "lsym"),
-    );
-    check.same(name, "imports", Some(imports), after(&words, "imp"));
-    check.same(name, "deferred", Some(deferred), after(&words, "def"));
-    check.same(name, "ids", Some(m.import_ids), after(&words, "ids"));
-    check.same(name, "entries", Some(m.relocations), after(&words, "lrel"));
-    check.same(
-        name,
-        "entries in text",
-        true,
-        line.contains(&format!("(text {in_text}) ")),
-    );
-    check.same(
-        name,
-        "types",
-        true,
-        line.contains(&format!(" {} ent ", types.join(","))),
-    );
-    check.same(
-        name,
-        "entry section",
-        Some(m.entry_section),
-        after(&words, "ent"),
-    );
-    check.same(
-        name,
-        "TOC section",
-        Some(m.toc_section),
-        after(&words, "toc"),
-    );
-    check.same(name, "bss", Some(m.bss_size), after(&words[4..], "bss"));
-    check.same(name, "gap", Some(gap), after(&words, "gap"));
+    }
 }
 
 /// A module's images as they are in its file: a build for its own addresses
@@ -263,14 +258,8 @@ fn check_pair(check: &mut Check, name: &str, a: &[u8], b: &[u8]) {
     check.same(name, "book", (&book_text, &book_data), (&text, &data));
 }
 
-fn main() {
-    let folder = std::env::args().nth(1).expect("the corpus folder");
-    let folder = Path::new(&folder);
-    let mut check = Check {
-        facts: 0,
-        differences: 0,
-    };
-
+/// Checks every file that has a verdict; gives how many.
+fn check_files(check: &mut Check, folder: &Path) -> u64 {
     let verdicts = fs::read_to_string(folder.join("verdicts.txt")).expect("verdicts.txt");
     let mut files = 0;
     for line in verdicts.lines().filter(|line| !line.trim().is_empty()) {
@@ -278,36 +267,50 @@ fn main() {
         let file = fs::read(folder.join("mod").join(name))
             .or_else(|_| fs::read(folder.join("obj").join(name)))
             .expect("a file of this name");
-        check_verdict(&mut check, line, &file);
+        check_verdict(check, line, &file);
         files += 1;
     }
-    let (facts, differences) = (check.facts, check.differences);
-    println!("{files} files, {facts} facts, {differences} differences");
+    files
+}
 
-    let mut names: Vec<String> = fs::read_dir(folder.join("pairs"))
+/// Checks every pair; gives how many.
+fn check_pairs(check: &mut Check, folder: &Path) -> usize {
+    let folder = folder.join("pairs");
+    let name = |entry: std::io::Result<fs::DirEntry>| {
+        let name = entry.expect("an entry").file_name();
+        name.into_string().expect("a name")
+    };
+    let mut names: Vec<String> = fs::read_dir(&folder)
         .expect("pairs")
-        .map(|entry| {
-            entry
-                .expect("an entry")
-                .file_name()
-                .into_string()
-                .expect("a name")
-        })
+        .map(name)
         .filter(|name| name.contains(".a-"))
         .collect();
     names.sort();
     for name in &names {
-        let a = fs::read(folder.join("pairs").join(name)).expect("a");
-        let b = fs::read(folder.join("pairs").join(name.replace(".a-", ".b-"))).expect("b");
-        check_pair(&mut check, name, &a, &b);
+        let a = fs::read(folder.join(name)).expect("a");
+        let b = fs::read(folder.join(name.replace(".a-", ".b-"))).expect("b");
+        check_pair(check, name, &a, &b);
     }
+    names.len()
+}
+
+fn main() {
+    let folder = std::env::args().nth(1).expect("the corpus folder");
+    let folder = Path::new(&folder);
+    let mut check = Check {
+        facts: 0,
+        differences: 0,
+    };
+    let files = check_files(&mut check, folder);
+    let (facts, differences) = (check.facts, check.differences);
+    println!("{files} files, {facts} facts, {differences} differences");
+    let pairs = check_pairs(&mut check, folder);
     println!(
-        "{} pairs, {} facts, {} differences",
-        names.len(),
+        "{pairs} pairs, {} facts, {} differences",
         check.facts - facts,
         check.differences - differences
     );
-    if check.differences > 0 || files == 0 || names.is_empty() {
+    if check.differences > 0 || files == 0 || pairs == 0 {
         std::process::exit(1);
     }
 }
