@@ -190,103 +190,80 @@ fn made(wish: Wish) -> Made {
     )
 }
 
+/// A wish for each format.
+fn formats() -> [Wish; 2] {
+    [Some(32), Some(64)].map(|bits| Wish {
+        bits,
+        ..Wish::default()
+    })
+}
+
+fn limit<T>(item: u64) -> Result<T, Refusal> {
+    let number = LIMIT;
+    Err(Refusal { number, item })
+}
+
 #[test]
-fn limits() {
-    for bits in [Some(32), Some(64)] {
-        let wish = Wish {
-            bits,
-            ..Wish::default()
-        };
-        let file = made(Wish {
-            sections: Some(32),
-            ..wish.clone()
-        })
-        .bytes;
-        assert_eq!(open(&file).unwrap().sections.len(), 32);
-        let file = make::object(
-            &mut Rng::new(1),
-            &Wish {
-                sections: Some(33),
-                ..wish.clone()
-            },
-        )
-        .bytes;
-        assert_eq!(
-            open(&file),
-            Err(Refusal {
-                number: LIMIT,
-                item: 1
-            })
-        );
-
-        let file = made(Wish {
-            loader_symbols: Some(4_096),
-            ..wish.clone()
-        })
-        .bytes;
-        assert_eq!(module(&file).unwrap().loader_symbols, 4_096);
-        let file = made(Wish {
-            loader_symbols: Some(4_097),
-            ..wish.clone()
-        })
-        .bytes;
-        assert_eq!(
-            module(&file),
-            Err(Refusal {
-                number: LIMIT,
-                item: 2
-            })
-        );
-
-        let file = made(Wish {
-            entries: Some(4_096),
-            ..wish.clone()
-        })
-        .bytes;
-        assert_eq!(module(&file).unwrap().relocations, 4_096);
-        let file = made(Wish {
-            entries: Some(4_097),
-            ..wish.clone()
-        })
-        .bytes;
-        assert_eq!(
-            module(&file),
-            Err(Refusal {
-                number: LIMIT,
-                item: 3
-            })
-        );
-
-        let file = made(Wish {
-            image: Some(16_777_216),
-            ..wish.clone()
-        })
-        .bytes;
-        assert_eq!(module(&file).unwrap().data_image, 16_777_216);
-        let file = made(Wish {
-            image: Some(16_777_217),
-            ..wish.clone()
-        })
-        .bytes;
-        assert_eq!(
-            module(&file),
-            Err(Refusal {
-                number: LIMIT,
-                item: 4
-            })
-        );
-
+fn file_limit() {
+    for wish in formats() {
         let mut file = made(wish).bytes;
         file.resize(16_777_216, 0);
         assert!(module(&file).is_ok());
         file.push(0);
-        assert_eq!(
-            module(&file),
-            Err(Refusal {
-                number: LIMIT,
-                item: 0
-            })
-        );
+        assert_eq!(module(&file), limit(0));
+    }
+}
+
+#[test]
+fn section_limit() {
+    for wish in formats() {
+        let with = |count| Wish {
+            sections: Some(count),
+            ..wish.clone()
+        };
+        let file = made(with(32)).bytes;
+        assert_eq!(open(&file).unwrap().sections.len(), 32);
+        let file = make::object(&mut Rng::new(1), &with(33)).bytes;
+        assert_eq!(open(&file), limit(1));
+    }
+}
+
+#[test]
+fn loader_symbol_limit() {
+    for wish in formats() {
+        let with = |count| Wish {
+            loader_symbols: Some(count),
+            ..wish.clone()
+        };
+        let file = made(with(4_096)).bytes;
+        assert_eq!(module(&file).unwrap().loader_symbols, 4_096);
+        assert_eq!(module(&made(with(4_097)).bytes), limit(2));
+    }
+}
+
+#[test]
+fn relocation_limit() {
+    for wish in formats() {
+        let with = |count| Wish {
+            entries: Some(count),
+            ..wish.clone()
+        };
+        let file = made(with(4_096)).bytes;
+        assert_eq!(module(&file).unwrap().relocations, 4_096);
+        assert_eq!(module(&made(with(4_097)).bytes), limit(3));
+    }
+}
+
+#[test]
+fn image_limit() {
+    for wish in formats() {
+        let with = |length| Wish {
+            image: Some(length),
+            ..wish.clone()
+        };
+        let file = made(with(16_777_216)).bytes;
+        assert_eq!(module(&file).unwrap().data_image, 16_777_216);
+        assert_eq!(module(&made(with(16_777_217)).bytes), limit(4));
     }
 }
 

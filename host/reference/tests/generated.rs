@@ -144,61 +144,73 @@ fn the_book_equals_running_the_calls() {
     assert!(accepted > 300, "{accepted} lists changed their images");
 }
 
+/// A module of every second seed rich, and three plans that fit it.
+fn module_and_plans(rng: &mut Rng, seed: u64) -> (Made, [Plan; 3]) {
+    let wish = Wish {
+        rich: seed % 2 == 0,
+        ..Wish::default()
+    };
+    let made = make::module(rng, &wish);
+    let plans = [0, 1, 2].map(|_| fitting_plan(rng, &made));
+    (made, plans)
+}
+
 #[test]
 fn chains_of_moves() {
     for seed in 0..SEEDS {
         let mut rng = Rng::new(seed);
-        let made = make::module(
-            &mut rng,
-            &Wish {
-                rich: seed % 2 == 0,
-                ..Wish::default()
-            },
-        );
+        let (made, [p, q, r]) = module_and_plans(&mut rng, seed);
         let file = &made.bytes;
-        let plans: Vec<Plan> = (0..3).map(|_| fitting_plan(&mut rng, &made)).collect();
-        let (p, q, r) = (&plans[0], &plans[1], &plans[2]);
-        let built = |plan: &Plan, rng: &mut Rng| {
-            let (mut text, mut data) = buffers(rng, &made);
+        let [at_p, at_q, at_r] = [&p, &q, &r].map(|plan| {
+            let (mut text, mut data) = buffers(&mut rng, &made);
             let reached = build(file, plan, &mut text, &mut data).expect("a fitting plan");
             (text, data, reached)
-        };
-        let at_p = built(p, &mut rng);
-        let at_q = built(q, &mut rng);
-        let at_r = built(r, &mut rng);
+        });
         let (mut text, mut data) = (at_p.0.clone(), at_p.1.clone());
-        let to_q = move_images(file, p, q, &mut text, &mut data).unwrap();
-        assert_eq!((&text, &data, to_q), (&at_q.0, &at_q.1, at_q.2));
-        let same = move_images(file, q, q, &mut text, &mut data).unwrap();
-        assert_eq!((&text, &data, same), (&at_q.0, &at_q.1, at_q.2));
-        let to_r = move_images(file, q, r, &mut text, &mut data).unwrap();
-        assert_eq!((&text, &data, to_r), (&at_r.0, &at_r.1, at_r.2));
-        let back = move_images(file, r, p, &mut text, &mut data).unwrap();
-        assert_eq!((&text, &data, back), (&at_p.0, &at_p.1, at_p.2));
-
-        // A move changes nothing outside the fields.
-        let (start_text, start_data) = buffers(&mut rng, &made);
-        let (mut text, mut data) = (start_text.clone(), start_data.clone());
-        move_images(file, p, r, &mut text, &mut data).unwrap();
-        let mut inside = [vec![false; text.len()], vec![false; data.len()]];
-        for entry in relocations(file).unwrap() {
-            let (image, start) = if entry.section == made.text {
-                (0, made.text_address)
-            } else {
-                (1, made.data_address)
-            };
-            let at = (entry.address - start) as usize;
-            for place in &mut inside[image][at..at + entry.width as usize / 8] {
-                *place = true;
-            }
-        }
-        for i in 0..text.len() {
-            assert!(inside[0][i] || text[i] == start_text[i]);
-        }
-        for i in 0..data.len() {
-            assert!(inside[1][i] || data[i] == start_data[i]);
+        for (from, to, built) in [
+            (&p, &q, &at_q),
+            (&q, &q, &at_q),
+            (&q, &r, &at_r),
+            (&r, &p, &at_p),
+        ] {
+            let reached = move_images(file, from, to, &mut text, &mut data).unwrap();
+            assert_eq!((&text, &data, &reached), (&built.0, &built.1, &built.2));
         }
     }
+}
+
+#[test]
+fn a_move_changes_nothing_outside_the_fields() {
+    for seed in 0..SEEDS {
+        let mut rng = Rng::new(seed);
+        let (made, [p, _, r]) = module_and_plans(&mut rng, seed);
+        let (start_text, start_data) = buffers(&mut rng, &made);
+        let (mut text, mut data) = (start_text.clone(), start_data.clone());
+        move_images(&made.bytes, &p, &r, &mut text, &mut data).unwrap();
+        let (text_fields, data_fields) = in_fields(&made);
+        for i in 0..text.len() {
+            assert!(text_fields[i] || text[i] == start_text[i]);
+        }
+        for i in 0..data.len() {
+            assert!(data_fields[i] || data[i] == start_data[i]);
+        }
+    }
+}
+
+/// For each byte of the text and the data image whether it is of a field.
+fn in_fields(made: &Made) -> (Vec<bool>, Vec<bool>) {
+    let mut text = vec![false; made.text_size as usize];
+    let mut data = vec![false; made.image as usize];
+    for entry in relocations(&made.bytes).unwrap() {
+        let (image, start) = if entry.section == made.text {
+            (&mut text, made.text_address)
+        } else {
+            (&mut data, made.data_address)
+        };
+        let at = (entry.address - start) as usize;
+        image[at..at + entry.width as usize / 8].fill(true);
+    }
+    (text, data)
 }
 
 #[test]
@@ -287,46 +299,49 @@ fn a_refusal_changes_no_byte() {
     for seed in 0..SEEDS {
         let case = case(seed);
         for op in &case.ops {
-            match op {
-                Op::Build { plan, text, data } => {
-                    if data.len() < 1_000_000 {
-                        run_calls(&case.file, &[Call::Build(plan.clone())], text, data);
-                    }
-                }
-                Op::Move {
-                    from,
-                    to,
-                    text,
-                    data,
-                } => {
-                    if data.len() < 1_000_000 {
-                        run_calls(
-                            &case.file,
-                            &[Call::Move(from.clone(), to.clone())],
-                            text,
-                            data,
-                        );
-                    }
-                }
-                Op::ReadSheet { sheet, list } => {
-                    let mut after = list.clone();
-                    if read_sheet(sheet, &mut after).is_err() {
-                        assert_eq!(after, *list);
-                    }
-                }
-                Op::WriteSheet {
-                    text,
-                    data,
-                    list,
-                    sheet,
-                } => {
-                    let mut after = sheet.clone();
-                    if write_sheet(*text, *data, list, &mut after).is_err() {
-                        assert_eq!(after, *sheet);
-                    }
-                }
-                _ => {}
+            judge_images(&case.file, op);
+            judge_sheet(op);
+        }
+    }
+}
+
+/// A refused build or move, as `run_calls` judges it; large images are left out.
+fn judge_images(file: &[u8], op: &Op) {
+    let (call, text, data) = match op {
+        Op::Build { plan, text, data } => (Call::Build(plan.clone()), text, data),
+        Op::Move {
+            from,
+            to,
+            text,
+            data,
+        } => (Call::Move(from.clone(), to.clone()), text, data),
+        _ => return,
+    };
+    if data.len() < 1_000_000 {
+        run_calls(file, &[call], text, data);
+    }
+}
+
+/// A refused sheet.
+fn judge_sheet(op: &Op) {
+    match op {
+        Op::ReadSheet { sheet, list } => {
+            let mut after = list.clone();
+            if read_sheet(sheet, &mut after).is_err() {
+                assert_eq!(after, *list);
             }
         }
+        Op::WriteSheet {
+            text,
+            data,
+            list,
+            sheet,
+        } => {
+            let mut after = sheet.clone();
+            if write_sheet(*text, *data, list, &mut after).is_err() {
+                assert_eq!(after, *sheet);
+            }
+        }
+        _ => {}
     }
 }
