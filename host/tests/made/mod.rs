@@ -109,7 +109,20 @@ impl Module {
             format: self.format,
             bytes: Vec::new(),
         };
-        let count = self.symbols as u64;
+        self.loader_header(&mut out);
+        for _ in 0..self.symbols {
+            self.loader_symbol(&mut out);
+        }
+        for entry in &self.entries {
+            out.relocation(entry);
+        }
+        if self.format == Format::Xcoff64 {
+            out.bytes.extend(b"\0\x02s\0");
+        }
+        out.bytes
+    }
+
+    fn loader_header(&self, out: &mut Writer) {
         let entries = self.entries.len() as u64;
         out.u32(1);
         out.u32(self.symbols);
@@ -119,7 +132,7 @@ impl Module {
             Format::Xcoff32 => out.zeros(12),
             Format::Xcoff64 => {
                 let symbols = 56;
-                let relocations = symbols + 24 * count;
+                let relocations = symbols + 24 * self.symbols as u64;
                 out.u32(4);
                 out.word(0);
                 for n in [relocations + 16 * entries, symbols, relocations] {
@@ -127,35 +140,21 @@ impl Module {
                 }
             }
         }
-        for _ in 0..count {
-            match self.format {
-                Format::Xcoff32 => {
-                    out.bytes.extend(b"s\0\0\0\0\0\0\0");
-                    out.word(self.data_address);
-                }
-                Format::Xcoff64 => {
-                    out.word(self.data_address);
-                    out.u32(2);
-                }
+    }
+
+    fn loader_symbol(&self, out: &mut Writer) {
+        match self.format {
+            Format::Xcoff32 => {
+                out.bytes.extend(b"s\0\0\0\0\0\0\0");
+                out.word(self.data_address);
             }
-            out.u16(2);
-            out.zeros(10);
-        }
-        for e in &self.entries {
-            out.word(e.address);
-            if self.format == Format::Xcoff32 {
-                out.u32(e.symbol);
-            }
-            out.u16(e.kind);
-            out.u16(e.section);
-            if self.format == Format::Xcoff64 {
-                out.u32(e.symbol);
+            Format::Xcoff64 => {
+                out.word(self.data_address);
+                out.u32(2);
             }
         }
-        if self.format == Format::Xcoff64 {
-            out.bytes.extend(b"\0\x02s\0");
-        }
-        out.bytes
+        out.u16(2);
+        out.zeros(10);
     }
 }
 
@@ -212,6 +211,17 @@ impl Writer {
         self.u32(flags);
         if self.format == Format::Xcoff64 {
             self.zeros(4);
+        }
+    }
+    fn relocation(&mut self, entry: &Entry) {
+        self.word(entry.address);
+        if self.format == Format::Xcoff32 {
+            self.u32(entry.symbol);
+        }
+        self.u16(entry.kind);
+        self.u16(entry.section);
+        if self.format == Format::Xcoff64 {
+            self.u32(entry.symbol);
         }
     }
 }
