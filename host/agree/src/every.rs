@@ -53,37 +53,16 @@ pub fn every(file: &[u8], rng: &mut Rng) -> Vec<Op> {
 
 /// A build, a move, a list with refused calls, and the sheet of a plan.
 fn images(file: &[u8], rng: &mut Rng) -> Vec<Op> {
-    let (sizes, plans) = plans(file, rng);
-    let [p, q, r] = plans;
+    let (sizes, [p, q, r]) = plans(file, rng);
     let (text, data) = (rng.bytes(sizes.0), rng.bytes(sizes.1));
-    let mut long = q.clone();
-    long.list.push(0);
-    let calls = vec![
-        Call::Move(q.clone(), r.clone()),
-        Call::Build(p.clone()),
-        Call::Build(long.clone()),
-        Call::Move(p.clone(), q.clone()),
-        Call::Move(
-            q.clone(),
-            Plan {
-                text: u64::MAX,
-                ..r.clone()
-            },
-        ),
-        Call::Move(q.clone(), r.clone()),
-        Call::Move(p.clone(), p.clone()),
-    ];
-    let chained = vec![
-        Call::Build(p.clone()),
-        Call::Move(p.clone(), q.clone()),
-        Call::Move(q.clone(), r.clone()),
-    ];
     let mut longer = data.clone();
     longer.push(0);
-    let sheet = rng.bytes(20 + 8 * p.list.len());
-    let mut written = sheet.clone();
-    let _ = reference::write_sheet(p.text, p.data, &p.list, &mut written);
-    vec![
+    let list = |calls| Op::Calls {
+        calls,
+        text: text.clone(),
+        data: data.clone(),
+    };
+    let mut ops = vec![
         Op::Build {
             plan: p.clone(),
             text: text.clone(),
@@ -96,29 +75,55 @@ fn images(file: &[u8], rng: &mut Rng) -> Vec<Op> {
         },
         Op::Move {
             from: p.clone(),
-            to: q,
+            to: q.clone(),
             text: text.clone(),
             data: data.clone(),
         },
-        Op::Calls {
-            calls,
-            text: text.clone(),
-            data: data.clone(),
-        },
-        Op::Calls {
-            calls: chained,
-            text,
-            data,
-        },
+        list(with_refused_calls(&p, &q, &r)),
+        list(vec![
+            Call::Build(p.clone()),
+            Call::Move(p.clone(), q.clone()),
+            Call::Move(q, r),
+        ]),
+    ];
+    ops.extend(sheets(&p, rng));
+    ops
+}
+
+/// Refused are a plan whose list is too long and one past the end of memory.
+fn with_refused_calls(p: &Plan, q: &Plan, r: &Plan) -> Vec<Call> {
+    let mut long = q.clone();
+    long.list.push(0);
+    let past = Plan {
+        text: u64::MAX,
+        ..r.clone()
+    };
+    vec![
+        Call::Move(q.clone(), r.clone()),
+        Call::Build(p.clone()),
+        Call::Build(long),
+        Call::Move(p.clone(), q.clone()),
+        Call::Move(q.clone(), past),
+        Call::Move(q.clone(), r.clone()),
+        Call::Move(p.clone(), p.clone()),
+    ]
+}
+
+/// The sheet of a plan, written and read back.
+fn sheets(plan: &Plan, rng: &mut Rng) -> [Op; 2] {
+    let sheet = rng.bytes(20 + 8 * plan.list.len());
+    let mut written = sheet.clone();
+    let _ = reference::write_sheet(plan.text, plan.data, &plan.list, &mut written);
+    [
         Op::WriteSheet {
-            text: p.text,
-            data: p.data,
-            list: p.list.clone(),
+            text: plan.text,
+            data: plan.data,
+            list: plan.list.clone(),
             sheet,
         },
         Op::ReadSheet {
             sheet: written,
-            list: vec![0; p.list.len()],
+            list: vec![0; plan.list.len()],
         },
     ]
 }
