@@ -262,15 +262,13 @@ fn read_aux_header(file: &[u8], bits: u64) -> AuxHeader {
 
 /// MODULE 2: the auxiliary header says what the section headers say.
 fn judge_aux_header(aux: &AuxHeader, parts: &Parts) -> Result<(), Refusal> {
-    let same = aux.text == parts.text.number
-        && aux.data == parts.data.number
-        && aux.bss == parts.bss.number
-        && aux.loader == parts.loader.number
-        && aux.text_size == parts.text.section.size
-        && aux.data_size == parts.data.section.size
-        && aux.bss_size == parts.bss.section.size
-        && aux.text_start == parts.text.section.paddr
-        && aux.data_start == parts.data.section.paddr;
+    let (text, data, bss) = (&parts.text, &parts.data, &parts.bss);
+    let numbers = [text.number, data.number, bss.number, parts.loader.number];
+    let sizes = [text.section.size, data.section.size, bss.section.size];
+    let starts = [text.section.paddr, data.section.paddr];
+    let same = [aux.text, aux.data, aux.bss, aux.loader] == numbers
+        && [aux.text_size, aux.data_size, aux.bss_size] == sizes
+        && [aux.text_start, aux.data_start] == starts;
     if !same {
         return refuse(MODULE, 2);
     }
@@ -340,16 +338,19 @@ fn facts(bits: u64, parts: &Parts, aux: &AuxHeader, tables: &Tables, data_image:
 
 /// The only section with this kind; MODULE 1 if it isn't alone.
 fn only(summary: &Summary, flags: u64) -> Result<Part<'_>, Refusal> {
-    let mut found = Vec::new();
+    let mut found = None;
     for (i, section) in summary.sections.iter().enumerate() {
         if section.flags == flags {
+            if found.is_some() {
+                return refuse(MODULE, 1);
+            }
             let number = i as u64 + 1;
-            found.push(Part { number, section });
+            found = Some(Part { number, section });
         }
     }
-    match found.pop() {
-        Some(part) if found.is_empty() => Ok(part),
-        _ => refuse(MODULE, 1),
+    match found {
+        Some(part) => Ok(part),
+        None => refuse(MODULE, 1),
     }
 }
 
