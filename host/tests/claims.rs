@@ -491,3 +491,36 @@ fn counted_lines_are_counted() {
     }
     none(problems);
 }
+
+/// Each crate of crates.txt with its layer: one above the highest of the crates that it stands on.
+fn layers() -> BTreeMap<String, u32> {
+    let text = read("crates.txt");
+    let lines: BTreeMap<&str, &str> = text
+        .lines()
+        .filter_map(|line| line.split('#').next()?.split_once(':'))
+        .collect();
+    fn layer(krate: &str, lines: &BTreeMap<&str, &str>) -> u32 {
+        let list = lines.get(krate).copied();
+        let below = list.into_iter().flat_map(str::split_whitespace);
+        let highest = below.filter(|below| lines.contains_key(below));
+        1 + highest.map(|below| layer(below, lines)).max().unwrap_or(0)
+    }
+    lines
+        .keys()
+        .map(|krate| (krate.to_string(), layer(krate, &lines)))
+        .collect()
+}
+
+#[test]
+fn the_architecture_has_each_crate_at_its_layer() {
+    let text = read("docs/ARCHITECTURE.md");
+    let mut drawn: Vec<(String, u32)> = rows_with(&text, "Layer")
+        .iter()
+        .map(|row| {
+            let name = names(row.cell("Crate"))[0].to_string();
+            (name, row.cell("Layer").parse().unwrap())
+        })
+        .collect();
+    drawn.sort();
+    assert_eq!(drawn, layers().into_iter().collect::<Vec<_>>());
+}
