@@ -26,14 +26,14 @@ use Rattle.section.specs.declared.SectionAnswer.{SectionAnswer}
 use Rattle.section.specs.declared.SectionAnswer.the-variants.{Found, Refused}
 use Rattle.section.specs.Section.{sectionHeaderAt, SectionWithin}
 use Rattle.section.proofs.Judged.{Judged, section-judged}
-use Rattle.header.specs.declared.FileHeader.{FileHeader}
+use Rattle.file_header.specs.declared.FileHeader.{FileHeader}
 use Rattle.header.specs.declared.Summary.{Summary}
 use Rattle.header.specs.declared.Opened.{Opened}
-use Rattle.header.specs.Header.{headerAt, sectionStart, headerCheck, HeaderComplete}
-use Rattle.header.specs.Tables.{blankSection, blankSections, judgedAt, verdictOf, recordOf, sectionsCheck, sectionsOf, symbolsCheck, symbolTable}
+use Rattle.file_header.specs.Header.{headerAt, sectionStart, headerCheck, HeaderComplete}
+use Rattle.file_tables.specs.Tables.{blankSection, blankSections, judgedAt, verdictOf, recordOf, sectionsCheck, sectionsOf, symbolsCheck, symbolTable}
 use Rattle.header.specs.Inside.{Inside}
 use Rattle.header.specs.Open.{refusedBy, openedBy, summaryWith, openAs, openBy, openOf}
-use Rattle.header.proofs.Symbols.{symbols-inside, strings-inside}
+use Rattle.file_tables.proofs.Symbols.{symbols-inside, strings-inside}
 
 -- ---- the file header
 

@@ -17,12 +17,12 @@ use Rattle.refusal.specs.declared.Verdict.the-variants.{Accepted, Refused}
 use Rattle.refusal.specs.Refusal.{isRefused}
 use Rattle.refusal.proofs.Order.{go-on, stop}
 use Rattle.section.specs.declared.Section.{Section}
-use Rattle.header.specs.declared.FileHeader.{FileHeader}
+use Rattle.file_header.specs.declared.FileHeader.{FileHeader}
 use Rattle.header.specs.declared.Opened.{Opened}
-use Rattle.header.specs.declared.Scan.{Scan}
+use Rattle.file_tables.specs.declared.Scan.{Scan}
 use Rattle.header.specs.declared.Summary.{Summary}
-use Rattle.header.specs.Header.{headerAt, headerCheck}
-use Rattle.header.specs.Tables.{sectionsCheck, sectionsOf, refusedScan, scanBy, scanOf, symbolsCheck}
+use Rattle.file_header.specs.Header.{headerAt, headerCheck}
+use Rattle.file_tables.specs.Tables.{sectionsCheck, sectionsOf, refusedScan, scanBy, scanOf, symbolsCheck}
 use Rattle.header.specs.Open.{refusedBy, openedBy, summaryWith, openAs, openBy, openOf, reportOfOpened, openReport}
 
 pub opened-refused : (v : Verdict) (y : Summary) → isRefused v ≡ true → refusedBy v ≡ openedBy v y

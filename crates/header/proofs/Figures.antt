@@ -12,8 +12,8 @@ use Rattle.format.specs.Kind.{lowKind, kindOf}
 use Rattle.format.specs.Layout.{formatOf}
 use Rattle.refusal.specs.Order.{firstOf}
 use Rattle.section.specs.Section.{sectionHeaderAt, hasRawData, rawDataPast, misplaced, sectionOf, judgeKind, judgeSection}
-use Rattle.header.specs.Header.{headerAt, sectionStart, headerCheck}
-use Rattle.header.specs.Tables.{blankSections, judgedAt, sectionsCheck, sectionsOf, symbolsCheck, tableAt, symbolTable}
+use Rattle.file_header.specs.Header.{headerAt, sectionStart, headerCheck}
+use Rattle.file_tables.specs.Tables.{blankSections, judgedAt, sectionsCheck, sectionsOf, symbolsCheck, tableAt, symbolTable}
 use Rattle.header.specs.Open.{openedBy, summaryWith, openAs, openBy, openOf, openReport}
 
 -- 64 bytes: the magic number, one section, zeros to byte 20; `.text` padded to 8, 10000000 twice, size 4, pointer 60, zeros, flags 20; four bytes

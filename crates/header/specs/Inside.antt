@@ -6,8 +6,8 @@ use Rattle.format.specs.Layout.{symbolLength}
 use Rattle.format.specs.Limit.{fileLimit, sectionLimit}
 use Rattle.section.specs.Section.{SectionWithin}
 use Rattle.header.specs.declared.Summary.{Summary}
-use Rattle.header.specs.Header.{sectionStart}
-use Rattle.header.specs.Tables.{blankSection}
+use Rattle.file_header.specs.Header.{sectionStart}
+use Rattle.file_tables.specs.Tables.{blankSection}
 
 -- its headers, tables and raw data are in the file, its sections in the address space
 pub record Inside (file : List ℕ) (y : Summary) : Type 0 where

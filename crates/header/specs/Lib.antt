@@ -1,5 +1,3 @@
 -- What the contracts of `header` cite.
-pub mod Header
-pub mod Tables
 pub mod Open
 pub mod Inside

@@ -18,11 +18,11 @@ use Rattle.refusal.specs.declared.Verdict.the-variants.{Accepted, Refused}
 use Rattle.refusal.specs.Refusal.{reportNumber, reportItem}
 use Rattle.refusal.specs.Order.{_orElse_}
 use Rattle.section.specs.declared.Section.{Section}
-use Rattle.header.specs.declared.FileHeader.{FileHeader}
+use Rattle.file_header.specs.declared.FileHeader.{FileHeader}
 use Rattle.header.specs.declared.Summary.{Summary}
 use Rattle.header.specs.declared.Opened.{Opened}
-use Rattle.header.specs.Header.{headerAt, headerCheck}
-use Rattle.header.specs.Tables.{blankSections, sectionsCheck, sectionsOf, symbolsCheck, tableAt, symbolTable}
+use Rattle.file_header.specs.Header.{headerAt, headerCheck}
+use Rattle.file_tables.specs.Tables.{blankSections, sectionsCheck, sectionsOf, symbolsCheck, tableAt, symbolTable}
 
 -- what is handed back beside a refusal
 unfoldable pub blankSummary : Summary

@@ -24,8 +24,8 @@ use Rattle.import_id.specs.Import.{idCheck, stringStart, stringOf, placeOf, imp
 use Rattle.import_id.proofs.Strings.{next-in, left-all, strings-few}
 use Rattle.rows.specs.Rows.{rowsOf}
 use Rattle.rows.proofs.Laws.{rows-same, rows-three}
-use Rattle.loader_tables.specs.Table.{tableCheck}
-use Rattle.loader_tables.proofs.Tables.{Needs, needs-by}
+use Rattle.module_table.specs.Table.{tableCheck}
+use Rattle.module_table.proofs.Tables.{Needs, needs-by}
 use Rattle.import_table.specs.Imports.{importRow, imports, stringRow, StringsThere}
 use Rattle.format.proofs.Ranges.{length-part}
 

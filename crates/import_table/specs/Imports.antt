@@ -10,7 +10,7 @@ use Rattle.loadable.specs.declared.Loadable.{Loadable}
 use Rattle.import_id.specs.declared.ImportString.the-variants.{Path, Base, Member}
 use Rattle.import_id.specs.Import.{stringOf, importAt}
 use Rattle.report.specs.Report.{cRange}
-use Rattle.loader_tables.specs.Table.{Table}
+use Rattle.module_table.specs.Table.{Table}
 
 -- import id n: offset and length of its path, base name and archive member
 unfoldable pub importRow : List ℕ → Loadable → ℕ → List ℕ

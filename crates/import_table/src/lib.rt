@@ -6,7 +6,7 @@ ghost use Rattle.word.specs.Zero.{firstZero};
 ghost use Rattle.format.specs.Range.{bytesOf};
 ghost use Rattle.loadable.specs.Loadable.{loadableAt};
 ghost use Rattle.rows.specs.Rows.{rowsOf};
-ghost use Rattle.loader_tables.specs.Table.{checkBy, tableCheck, rowsBy, tableAfter};
+ghost use Rattle.module_table.specs.Table.{checkBy, tableCheck, rowsBy, tableAfter};
 ghost use Rattle.import_table.specs.Imports.{stringRow, StringsThere, imports};
 ghost use Rattle.refusal.specs.Order.{ifAccepted};
 ghost use Rattle.refusal.specs.Refusal.{reportOfVerdict};

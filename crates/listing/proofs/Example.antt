@@ -9,8 +9,8 @@ use Rattle.format.specs.Kind.{lowKind, kindOf}
 use Rattle.format.specs.Layout.{formatOf}
 use Rattle.refusal.specs.Order.{firstOf}
 use Rattle.section.specs.Section.{sectionHeaderAt, hasRawData, rawDataPast, misplaced, sectionOf, judgeKind, judgeSection}
-use Rattle.header.specs.Header.{headerAt, sectionStart, headerCheck}
-use Rattle.header.specs.Tables.{blankSections, judgedAt, sectionsCheck, sectionsOf, symbolsCheck, symbolTable}
+use Rattle.file_header.specs.Header.{headerAt, sectionStart, headerCheck}
+use Rattle.file_tables.specs.Tables.{blankSections, judgedAt, sectionsCheck, sectionsOf, symbolsCheck, symbolTable}
 use Rattle.header.specs.Open.{summaryWith, openedBy, openAs, openBy, openOf}
 use Rattle.text.specs.Text.{digitOf, digits, placesIn, places, decimal, hex}
 use Rattle.listing.specs.Listing.{fileLine, sectionLine, sectionLines, summaryText, listing}

@@ -27,7 +27,7 @@ use Rattle.module.specs.declared.Module.{Module}
 use Rattle.loader_header.specs.declared.LoaderTables.{LoaderTables}
 use Rattle.loader.specs.declared.LoaderAnswer.{LoaderAnswer}
 use Rattle.loader.specs.declared.LoaderAnswer.the-variants as answer
-use Rattle.loader.specs.Symbol.{TablesInside}
+use Rattle.loader_symbol.specs.Symbol.{TablesInside}
 use Rattle.loader.specs.Loader.{tablesIn, symbolsCheck, loaderCheck, loaderIn}
 use Rattle.loader.specs.Inside.{LoaderInside}
 use Rattle.loader_header.proofs.Places.{header-long, table-in, place-empty, place-full}

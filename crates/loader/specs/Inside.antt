@@ -10,7 +10,7 @@ use Rattle.format.specs.Range.{bytesOf}
 use Rattle.refusal.specs.declared.Verdict.the-variants.{Accepted}
 use Rattle.module.specs.declared.Module.{Module}
 use Rattle.loader_header.specs.declared.LoaderTables.{LoaderTables}
-use Rattle.loader.specs.Symbol.{symbolCheck, TablesInside}
+use Rattle.loader_symbol.specs.Symbol.{symbolCheck, TablesInside}
 
 pub record LoaderInside (file : List ℕ) (m : Module) (t : LoaderTables) : Type 0 where
   pub tables : TablesInside file t

@@ -1,4 +1,3 @@
 -- What the contracts of `loader` cite.
-pub mod Symbol
 pub mod Loader
 pub mod Inside

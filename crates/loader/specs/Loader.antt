@@ -9,7 +9,7 @@ use Rattle.loader_header.specs.declared.LoaderTables.{LoaderTables}
 use Rattle.loader.specs.declared.LoaderAnswer.{LoaderAnswer}
 use Rattle.loader.specs.declared.LoaderAnswer.the-variants.{Found, Refused}
 use Rattle.loader_header.specs.Header.{loaderHeaderAt, tablesOf, headerCheck}
-use Rattle.loader.specs.Symbol.{symbolCheck}
+use Rattle.loader_symbol.specs.Symbol.{symbolCheck}
 
 -- where the tables of the module m lie
 unfoldable pub tablesIn : List ℕ → Module → LoaderTables

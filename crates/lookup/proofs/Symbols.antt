@@ -23,7 +23,7 @@ use Rattle.refusal.specs.declared.Verdict.the-variants as verdict
 use Rattle.refusal.specs.Part.{Within}
 use Rattle.refusal.proofs.Order.{accepted-test}
 use Rattle.loader_header.specs.declared.LoaderTables.{LoaderTables}
-use Rattle.loader.specs.Symbol.{entryStart, stringIn, nameIn, TablesInside}
+use Rattle.loader_symbol.specs.Symbol.{entryStart, stringIn, nameIn, TablesInside}
 use Rattle.loader_header.proofs.Places.{entry-inside}
 use Rattle.loadable.specs.declared.Loadable.{Loadable}
 use Rattle.loadable.specs.declared.LoadableAnswer.{LoadableAnswer}

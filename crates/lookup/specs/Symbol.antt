@@ -11,9 +11,9 @@ use Rattle.refusal.specs.declared.Verdict.{Verdict}
 use Rattle.refusal.specs.declared.Verdict.the-variants as verdict
 use Rattle.refusal.specs.Order.{refuseIf, byVerdict}
 use Rattle.refusal.specs.Refusal.{numberOf, itemOf}
-use Rattle.loader.specs.declared.LoaderEntry.{LoaderEntry}
+use Rattle.loader_symbol.specs.declared.LoaderEntry.{LoaderEntry}
 use Rattle.loader_header.specs.declared.LoaderTables.{LoaderTables}
-use Rattle.loader.specs.Symbol.{entryStart, entryAt, nameIn}
+use Rattle.loader_symbol.specs.Symbol.{entryStart, entryAt, nameIn}
 use Rattle.loadable.specs.declared.Loadable.{Loadable}
 use Rattle.loadable.specs.declared.LoadableAnswer.{LoadableAnswer}
 use Rattle.loadable.specs.declared.LoadableAnswer.the-variants as loadable

@@ -4,11 +4,11 @@ ghost use Prim.Native.Nat.{_+_, _-_, _*_, _≤_, _<_};
 ghost use Rattle.format.specs.Layout.{loaderSymbolLength};
 ghost use Rattle.format.specs.Limit.{fileLimit};
 ghost use Rattle.refusal.specs.Part.{rangeBytes};
-ghost use Rattle.loader.specs.Symbol.{entryStart};
+ghost use Rattle.loader_symbol.specs.Symbol.{entryStart};
 ghost use Rattle.lookup.specs.Symbol.{indexCheck, loaderSymbolAt, loaderNameAt, reportOfLoaderSymbol, loaderSymbolReport};
 use loadable::LoadableAnswer;
-use loader::LoaderEntry;
 use loader_header::LoaderTables;
+use loader_symbol::LoaderEntry;
 use refusal::IndexItem;
 use refusal::RangeAnswer;
 use refusal::Refusal;
@@ -59,7 +59,7 @@ pub fn loader_symbol(file: &[u8], i: u64) -> LoaderSymbolAnswer
                     let m = l.layout;
                     let f = m.format;
                     let base = entry_base(t, i);
-                    LoaderSymbolAnswer::Found(loader::read_entry(file, f, base))
+                    LoaderSymbolAnswer::Found(loader_symbol::read_entry(file, f, base))
                 }
             }
         }
@@ -83,9 +83,9 @@ pub fn loader_symbol_name_range(file: &[u8], i: u64) -> RangeAnswer
                     let f = m.format;
                     let strings = t.strings;
                     let base = entry_base(t, i);
-                    let e = loader::read_entry(file, f, base);
+                    let e = loader_symbol::read_entry(file, f, base);
                     let name = e.name;
-                    loader::name_range(file, f, strings, base, i, name)
+                    loader_symbol::name_range(file, f, strings, base, i, name)
                 }
             }
         }

@@ -17,7 +17,7 @@ use Rattle.refusal.proofs.Order.{accepted-first, accepted-rest, accepted-test, 
 use Rattle.header.specs.declared.Summary.{Summary}
 use Rattle.header.specs.Inside.{Inside}
 use Rattle.header.specs.Open.{openOf}
-use Rattle.header.specs.Tables.{blankSection}
+use Rattle.file_tables.specs.Tables.{blankSection}
 use Rattle.header.proofs.Accepted.{opened-inside}
 use Rattle.auxiliary.specs.declared.AuxHeader.{AuxHeader}
 use Rattle.parts.specs.declared.Parts.{Parts}

@@ -13,7 +13,7 @@ use Rattle.refusal.specs.declared.Verdict.the-variants.{Accepted}
 use Rattle.refusal.specs.Order.{refuseIf}
 use Rattle.refusal.proofs.Order.{accepted-first, accepted-rest, accepted-test}
 use Rattle.header.specs.declared.Summary.{Summary}
-use Rattle.header.specs.Header.{sectionStart}
+use Rattle.file_header.specs.Header.{sectionStart}
 use Rattle.header.specs.Inside.{Inside}
 use Rattle.auxiliary.specs.declared.AuxHeader.{AuxHeader}
 use Rattle.parts.specs.declared.Parts.{Parts}

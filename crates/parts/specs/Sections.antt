@@ -11,7 +11,7 @@ use Rattle.refusal.specs.declared.Verdict.{Verdict}
 use Rattle.refusal.specs.Order.{refuseIf, firstOf}
 use Rattle.section.specs.declared.Section.{Section}
 use Rattle.header.specs.declared.Summary.{Summary}
-use Rattle.header.specs.Tables.{blankSection}
+use Rattle.file_tables.specs.Tables.{blankSection}
 use Rattle.parts.specs.declared.Tally.{Tally}
 use Rattle.parts.specs.declared.Tallies.{Tallies}
 use Rattle.parts.specs.declared.Part.{Part}

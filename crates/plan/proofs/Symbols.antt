@@ -20,8 +20,8 @@ use Rattle.format.specs.declared.SymbolLayout.{SymbolLayout}
 use Rattle.format.specs.Limit.{fileLimit}
 use Rattle.format.specs.Layout.{symbolLayout, loaderSymbolLength}
 use Rattle.format.proofs.Layouts.{FieldInside, SymbolInside, symbol-inside}
-use Rattle.loader.specs.declared.LoaderEntry.{LoaderEntry}
-use Rattle.loader.specs.Symbol.{entryStart, entryAt, isImported}
+use Rattle.loader_symbol.specs.declared.LoaderEntry.{LoaderEntry}
+use Rattle.loader_symbol.specs.Symbol.{entryStart, entryAt, isImported}
 use Rattle.loadable.specs.declared.Loadable.{Loadable}
 use Rattle.loadable.specs.Valid.{Valid}
 use Rattle.history.specs.declared.Followed.{Followed}

@@ -14,8 +14,8 @@ use Rattle.refusal.specs.declared.Verdict.the-variants as verdict
 use Rattle.module.specs.declared.Anchor.{Anchor}
 use Rattle.module.specs.declared.Module.{Module}
 use Rattle.parts.specs.declared.Parts.{Parts}
-use Rattle.loader.specs.declared.LoaderEntry.{LoaderEntry}
-use Rattle.loader.specs.Symbol.{entryAt, isImported}
+use Rattle.loader_symbol.specs.declared.LoaderEntry.{LoaderEntry}
+use Rattle.loader_symbol.specs.Symbol.{entryAt, isImported}
 use Rattle.relocation.specs.Relocation.{entryIn, placeAt, subtracts}
 use Rattle.loadable.specs.declared.Loadable.{Loadable}
 use Rattle.loadable.specs.declared.LoadableAnswer.{LoadableAnswer}

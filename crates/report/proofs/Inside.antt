@@ -10,8 +10,8 @@ use Rattle.refusal.specs.declared.RangeAnswer.the-variants.{Found, Refused}
 use Rattle.refusal.specs.Part.{Within}
 use Rattle.section_lookup.specs.Lookup.{sectionNameAt}
 use Rattle.section_lookup.proofs.Lookup as section
-use Rattle.symbol.specs.Symbol.{symbolNameAt}
-use Rattle.symbol.proofs.Lookup as symbol
+use Rattle.symbol_lookup.specs.Lookup.{symbolNameAt}
+use Rattle.symbol_lookup.proofs.Lookup as symbol
 use Rattle.import_id.specs.declared.ImportString.{ImportString}
 use Rattle.lookup.specs.Symbol.{loaderNameAt}
 use Rattle.import_id.specs.Import.{importAt}

@@ -11,9 +11,9 @@ use Rattle.refusal.specs.declared.RangeAnswer.the-variants.{Found, Refused}
 use Rattle.refusal.specs.Refusal.{numberOf, itemOf}
 use Rattle.header.specs.Open.{OpenReport}
 use Rattle.section_lookup.specs.Lookup.{SectionReport}
-use Rattle.symbol.specs.Symbol.{SymbolReport}
-use Rattle.symbol.specs.Walk.{WalkReport}
-use Rattle.csect.specs.Csect.{CsectReport}
+use Rattle.symbol_lookup.specs.Lookup.{SymbolReport}
+use Rattle.walk.specs.Walk.{WalkReport}
+use Rattle.csect_lookup.specs.Lookup.{CsectReport}
 use Rattle.loadable.specs.Loadable.{ModuleReport, bitsOf}
 use Rattle.lookup.specs.Symbol.{LoaderSymbolReport}
 use Rattle.report.specs.declared.COpen.{COpen}

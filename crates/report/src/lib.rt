@@ -3,9 +3,9 @@ ghost use mathlib.Core.Path.{_≡_};
 ghost use Rattle.refusal.specs.Refusal.{numberOf, itemOf, reportNumber, reportItem};
 ghost use Rattle.header.specs.Open.{reportOfOpened};
 ghost use Rattle.section_lookup.specs.Lookup.{reportOfSection};
-ghost use Rattle.symbol.specs.Symbol.{scnumOf, reportOfSymbol};
-ghost use Rattle.symbol.specs.Walk.{reportOfWalk};
-ghost use Rattle.csect.specs.Csect.{typeNumber, reportOfCsect};
+ghost use Rattle.symbol_lookup.specs.Lookup.{scnumOf, reportOfSymbol};
+ghost use Rattle.walk.specs.Walk.{reportOfWalk};
+ghost use Rattle.csect_lookup.specs.Lookup.{typeNumber, reportOfCsect};
 ghost use Rattle.loadable.specs.Loadable.{bitsOf, reportOfModule};
 ghost use Rattle.lookup.specs.Symbol.{reportOfLoaderSymbol};
 ghost use Rattle.report.specs.Report.{oneIf, signed64, cOpen, cSection, cRange, cSymbol, cWalk, cCsect, cPart, cAnchor, cModule, cLoaderSymbol};
@@ -24,7 +24,7 @@ use refusal::Verdict;
 use section::SectionAnswer;
 use symbol::SymbolAnswer;
 use symbol::SymbolSection;
-use symbol::WalkAnswer;
+use walk::WalkAnswer;
 
 // `bits` is 32 or 64; `symbols` counts the symbol table's entries, auxiliaries included.
 #[repr(C)]

@@ -24,11 +24,11 @@ use Rattle.refusal.proofs.Order.{accepted-first, accepted-rest, accepted-test}
 use Rattle.section.specs.declared.SectionAnswer.{SectionAnswer}
 use Rattle.section.specs.declared.SectionAnswer.the-variants.{Found, Refused}
 use Rattle.header.specs.declared.Opened.{Opened}
-use Rattle.header.specs.Header.{sectionStart}
-use Rattle.header.specs.Tables.{blankSection}
+use Rattle.file_header.specs.Header.{sectionStart}
+use Rattle.file_tables.specs.Tables.{blankSection}
 use Rattle.header.specs.Open.{openOf}
 use Rattle.section_lookup.specs.Lookup.{numberCheck, lookupCheck, sectionAt, nameOf, sectionNameAt, reportOfSection, sectionReport}
-use Rattle.header.proofs.Fields.{section-whole}
+use Rattle.file_header.proofs.Fields.{section-whole}
 use Rattle.header.specs.Inside.{Inside}
 use Rattle.header.proofs.Accepted.{opened-inside}
 

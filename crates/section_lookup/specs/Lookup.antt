@@ -20,8 +20,8 @@ use Rattle.section.specs.declared.Section.{Section}
 use Rattle.section.specs.declared.SectionAnswer.{SectionAnswer}
 use Rattle.section.specs.declared.SectionAnswer.the-variants.{Found, Refused}
 use Rattle.header.specs.declared.Summary.{Summary}
-use Rattle.header.specs.Header.{sectionStart}
-use Rattle.header.specs.Tables.{blankSection, verdictOf, recordOf}
+use Rattle.file_header.specs.Header.{sectionStart}
+use Rattle.file_tables.specs.Tables.{blankSection, verdictOf, recordOf}
 use Rattle.header.specs.Open.{openOf}
 
 -- INDEX: sections are numbered from one

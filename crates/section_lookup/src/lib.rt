@@ -61,7 +61,7 @@ pub fn section_name_range(file: &[u8], n: SectionNumber) -> RangeAnswer
             let f = s.format;
             let l = format::section_layout(f);
             let name = l.name;
-            let base = header::section_start(f, s.opthdr, n.0 - 1) as usize;
+            let base = file_header::section_start(f, s.opthdr, n.0 - 1) as usize;
             RangeAnswer::Found(format::text_in(file, base, name))
         }
     }

@@ -1,4 +1,4 @@
--- The laws of an entry's checks. Assumes nothing.
+-- The laws of an entry's checks, and of where the tables lie. Assumes nothing.
 use Prim.Native.Nat.{ℕ, _+_, _≤_, _<_}
 use mathlib.Core.Path.{_≡_, refl}
 use mathlib.Core.Bool.{true, false, _&&_, and-false}
@@ -18,11 +18,14 @@ use Rattle.refusal.specs.declared.Verdict.{Verdict}
 use Rattle.refusal.specs.declared.Verdict.the-variants as verdict
 use Rattle.refusal.specs.Order.{_orElse_, byVerdict}
 use Rattle.refusal.proofs.Order.{test-passed, test-refused, accepted-first, accepted-rest, accepted-test}
+use Rattle.header.specs.declared.Opened.{Opened}
+use Rattle.header.specs.Open.{openOf}
+use Rattle.header.proofs.Accepted.{opened-inside}
 use Rattle.symbol.specs.declared.Tables.{Tables}
 use Rattle.symbol.specs.declared.SymbolEntry.{SymbolEntry}
 use Rattle.symbol.specs.declared.Symbol.{Symbol}
 use Rattle.symbol.specs.declared.SymbolAnswer.the-variants.{Found, Refused}
-use Rattle.symbol.specs.Entry.{TablesInside, entryStart, entryAt}
+use Rattle.symbol.specs.Entry.{tablesOf, TablesInside, entryStart, entryAt}
 use Rattle.symbol.specs.Symbol.{indexCheck, auxCheck, scnumCheck, nameCheck, symbolCheck, symbolOf, entryOf, symbolIn}
 
 -- ---- the checks in their order
@@ -80,6 +83,14 @@ module _ (file : List ℕ) (t : Tables) (i : SymbolIndex) where
           let n : entryOf file t i .numaux ≡ s .numaux = cc in
           rw (← n) (auxiliaries-in file t i (entryOf file t i) q)
       by-verdict (verdict.Refused x) q e = let z : _≡_ {A = ℕ} 0 1 = cc in absurd (omega arith)
+
+-- ---- where the tables lie
+
+-- the tables of an accepted file are in it
+pub tables-inside : (file : List ℕ) {o : Opened} {t : Tables} → o ≡ openOf file → o .verdict ≡ verdict.Accepted → t ≡ tablesOf (o .summary) → TablesInside file t
+tables-inside file e k q =
+    let h = opened-inside file (rw e at k) in
+    rw (q, e) record { small = h .small; symbols = h .symbols; strings = h .strings }
 
 -- an entry of the table is whole
 pub entry-whole : (file : List ℕ) (t : Tables) (i : ℕ) → TablesInside file t → i < t .count → entryStart t i + symbolLength ≤ length file

@@ -1,7 +1,5 @@
--- The laws of symbols, for this crate's own proofs and the crates above, and figures of document 01.
+-- The laws of symbol table entries, for this crate's own proofs and the crates above, and figures of document 01.
 
 pub mod Names
 pub mod Checks
-pub mod Lookup
-pub mod Steps
 pub mod Figures

@@ -2,4 +2,3 @@
 pub mod Entry
 pub mod Name
 pub mod Symbol
-pub mod Walk

@@ -1,15 +1,13 @@
-// Symbol table entries, their names, and the walk over the table.
+// Symbol table entries, each read and judged with its name.
 ghost use mathlib.Core.Path.{_≡_};
 ghost use Prim.Native.Nat.{_+_, _≤_, _<_};
 ghost use lib.ListN.{length};
 ghost use Rattle.format.specs.Layout.{symbolLength};
 ghost use Rattle.format.specs.Range.{bytesOf};
-ghost use Rattle.refusal.specs.Part.{rangeBytes};
 ghost use Rattle.word.specs.Zero.{ZeroEnd};
 ghost use Rattle.symbol.specs.Entry.{tablesOf, entryAt, TablesInside};
-ghost use Rattle.symbol.specs.Name.{stringIn, nameIn};
-ghost use Rattle.symbol.specs.Symbol.{verdictOf, symbolCheck, sectionIn, symbolOf, symbolIn, symbolAt, symbolNameAt, reportOfSymbol, symbolReport};
-ghost use Rattle.symbol.specs.Walk.{walkIn, walkOf, reportOfWalk, walkReport};
+ghost use Rattle.symbol.specs.Name.{nameIn};
+ghost use Rattle.symbol.specs.Symbol.{verdictOf, symbolCheck, sectionIn, symbolOf, symbolIn};
 use format::FileOffset;
 use format::FileRange;
 use format::Format;
@@ -18,7 +16,6 @@ use format::SectionNumber;
 use format::SymbolIndex;
 use header::Summary;
 use refusal::IndexItem;
-use refusal::RangeAnswer;
 use refusal::Refusal;
 use refusal::Verdict;
 
@@ -59,18 +56,6 @@ pub struct Symbol {
 
 pub enum SymbolAnswer {
     Found(Symbol),
-    Refused(Refusal),
-}
-
-// How many entries the walk visited, the index where it ended, and why: accepted at the table's end.
-pub struct WalkEnd {
-    pub visited: u64,
-    pub end: SymbolIndex,
-    pub cause: Verdict,
-}
-
-pub enum WalkAnswer {
-    Ended(WalkEnd),
     Refused(Refusal),
 }
 
@@ -199,153 +184,5 @@ pub fn symbol_in(file: &[u8], t: Tables, ends: u64, i: SymbolIndex) -> SymbolAns
     match v {
         Verdict::Refused(x) => SymbolAnswer::Refused(x),
         Verdict::Accepted => SymbolAnswer::Found(symbol_of(e)),
-    }
-}
-
-// The symbol at an index: opening's refusals, then INDEX, AUX, SECTION, NAME.
-pub fn symbol_at(file: &[u8], i: SymbolIndex) -> SymbolAnswer
-    ensures cause { λ r. ⌜ r ≡ symbolAt (now (file .entry)) i ⌝ }
-    ensures report { λ r. ⌜ reportOfSymbol r ≡ symbolReport (now (file .entry)) i ⌝ }
-{
-    let o = header::open(file);
-    let v = o.verdict;
-    match v {
-        Verdict::Refused(x) => SymbolAnswer::Refused(x),
-        Verdict::Accepted => {
-            let y = o.summary;
-            let t = tables_of(y);
-            let strings = t.strings;
-            let ends = names_end(file, strings);
-            symbol_in(file, t, ends, i)
-        }
-    }
-}
-
-// The name at the offset `o` of the string table.
-fn string_range(file: &[u8], strings: FileRange, o: u64, i: SymbolIndex) -> RangeAnswer
-    requires { ⌜ strings .start .0 + strings .length ≤ length (now file) ⌝ }
-    ensures { λ r. ⌜ r ≡ stringIn (now (file .entry)) strings o i ⌝ }
-{
-    if o < 4 {
-        return RangeAnswer::Refused(Refusal::Name(i));
-    }
-    if strings.length <= o {
-        return RangeAnswer::Refused(Refusal::Name(i));
-    }
-    let from = strings.start;
-    let start = from.0 as usize + o as usize;
-    let end = from.0 as usize + strings.length as usize;
-    let n = word::first_zero(&file[start..end]) as u64;
-    if strings.length - o <= n {
-        return RangeAnswer::Refused(Refusal::Name(i));
-    }
-    RangeAnswer::Found(FileRange {
-        start: FileOffset(start as u64),
-        length: n,
-    })
-}
-
-// Where the name of the entry at the index `i` lies.
-fn name_range(file: &[u8], t: Tables, i: SymbolIndex, name: NameField) -> RangeAnswer
-    requires { ⌜ TablesInside (now file) t × (i .0 < t .count) ⌝ }
-    ensures { λ r. ⌜ r ≡ nameIn (now (file .entry)) t i name ⌝ }
-{
-    match name {
-        NameField::Short => {
-            let f = t.format;
-            let l = format::symbol_layout(f);
-            let place = l.name;
-            let start = t.start;
-            let base = start.0 + i.0 * format::SYMBOL_LENGTH;
-            RangeAnswer::Found(format::text_in(file, base as usize, place))
-        }
-        NameField::Offset(o) => {
-            if o == 0 {
-                return RangeAnswer::Found(FileRange {
-                    start: FileOffset(0),
-                    length: 0,
-                });
-            }
-            let strings = t.strings;
-            string_range(file, strings, o, i)
-        }
-    }
-}
-
-// Where the name of the symbol at an index lies; the refusals are those of `symbol_at`.
-pub fn symbol_name_range(file: &[u8], i: SymbolIndex) -> RangeAnswer
-    ensures { λ r. ⌜ r ≡ symbolNameAt (now (file .entry)) i ⌝ }
-{
-    let a = symbol_at(file, i);
-    match a {
-        SymbolAnswer::Refused(x) => RangeAnswer::Refused(x),
-        SymbolAnswer::Found(_) => {
-            let o = header::open(file);
-            let y = o.summary;
-            let t = tables_of(y);
-            let f = t.format;
-            let start = t.start;
-            let base = start.0 + i.0 * format::SYMBOL_LENGTH;
-            let name = format::read_name_field(file, f, base as usize);
-            name_range(file, t, i, name)
-        }
-    }
-}
-
-// The name of the symbol at an index: the very bytes of the file, none on a refusal.
-pub fn symbol_name<'a>(file: &'a [u8], i: SymbolIndex) -> &'a [u8]
-    ensures { λ r. ⌜ now r ≡ rangeBytes (now (file .entry)) (symbolNameAt (now (file .entry)) i) ⌝ }
-{
-    let a = symbol_name_range(file, i);
-    refusal::part_of(file, a)
-}
-
-// The walk over the tables of an opened file.
-pub fn walk_tables(file: &[u8], t: Tables, ends: u64) -> WalkEnd
-    requires { ⌜ TablesInside (now file) t × ZeroEnd (bytesOf (now file) (t .strings)) ends ⌝ }
-    ensures { λ r. ⌜ r ≡ walkIn (now (file .entry)) t ⌝ }
-{
-    let count = t.count;
-    let mut i: u64 = 0;
-    let mut visited: u64 = 0;
-    while i < count {
-        let a = symbol_in(file, t, ends, SymbolIndex(i));
-        match a {
-            SymbolAnswer::Refused(x) => {
-                return WalkEnd {
-                    visited,
-                    end: SymbolIndex(i),
-                    cause: Verdict::Refused(x),
-                };
-            }
-            SymbolAnswer::Found(s) => {
-                i = i + 1 + s.numaux;
-            }
-        }
-        visited += 1;
-    }
-    WalkEnd {
-        visited,
-        end: SymbolIndex(i),
-        cause: Verdict::Accepted,
-    }
-}
-
-// The walk over the symbol table; one that stops is an answer and names its cause.
-pub fn walk(file: &[u8]) -> WalkAnswer
-    ensures cause { λ r. ⌜ r ≡ walkOf (now (file .entry)) ⌝ }
-    ensures report { λ r. ⌜ reportOfWalk r ≡ walkReport (now (file .entry)) ⌝ }
-{
-    let o = header::open(file);
-    let v = o.verdict;
-    match v {
-        Verdict::Refused(x) => WalkAnswer::Refused(x),
-        Verdict::Accepted => {
-            let y = o.summary;
-            let t = tables_of(y);
-            let strings = t.strings;
-            let ends = names_end(file, strings);
-            WalkAnswer::Ended(walk_tables(file, t, ends))
-        }
     }
 }

@@ -18,7 +18,8 @@ use Rattle.csect.specs.declared.TypeAnswer.{TypeAnswer}
 use Rattle.csect.specs.declared.TypeAnswer.the-variants.{Known, Unknown}
 use Rattle.csect.specs.declared.CsectAnswer.{CsectAnswer}
 use Rattle.csect.specs.declared.CsectAnswer.the-variants.{Found, Refused}
-use Rattle.csect.specs.Csect.{carriesCsect, isMarked, isMapped, typedCsect, ownCsect, ownAfter, isContained, contained, csectAfter, csectIn, csectReport, reportOfCsect}
+use Rattle.csect.specs.Csect.{carriesCsect, isMarked, isMapped, typedCsect, ownCsect, ownAfter}
+use Rattle.csect_lookup.specs.Lookup.{isContained, contained, csectAfter, csectIn, csectReport, reportOfCsect}
 use Rattle.report.specs.Report.{cCsect}
 use Rattle.symbol_table.specs.Table.{OpenTables}
 use Rattle.symbol_table.proofs.Opened.{csect-is}

@@ -26,8 +26,9 @@ use Rattle.symbol.specs.declared.Symbol.{Symbol}
 use Rattle.symbol.specs.declared.SymbolAnswer.the-variants.{Found, Refused}
 use Rattle.symbol.specs.Entry.{tablesOf}
 use Rattle.symbol.specs.Name.{stringIn, nameIn}
-use Rattle.symbol.specs.Symbol.{verdictOf, indexCheck, auxCheck, scnumCheck, nameCheck, symbolCheck, symbolOf, entryOf, symbolIn, symbolAt, nameBehind, symbolNameAt}
-use Rattle.symbol.proofs.Names.{rest-zero}
+use Rattle.symbol.specs.Symbol.{verdictOf, indexCheck, auxCheck, scnumCheck, nameCheck, symbolCheck, symbolOf, entryOf, symbolIn}
+use Rattle.symbol_lookup.specs.Lookup.{symbolAt, nameBehind, symbolNameAt}
+use Rattle.symbol_lookup.proofs.Names.{rest-zero}
 use Rattle.symbol_table.specs.Row.{nameSpan, symbolSpan}
 
 -- the name is in these bytes, up to their first zero

@@ -15,12 +15,13 @@ use Rattle.symbol.specs.declared.Symbol.{Symbol}
 use Rattle.symbol.specs.declared.SymbolAnswer.the-variants.{Found}
 use Rattle.symbol.specs.Entry.{TablesInside, entryStart, entryAt}
 use Rattle.symbol.specs.Name.{nameIn}
-use Rattle.symbol.specs.Symbol.{verdictOf, entryOf, symbolIn, symbolAt}
-use Rattle.symbol.proofs.Checks.{symbol-in-table, entry-whole}
-use Rattle.symbol.proofs.Lookup.{tables-inside, at-opened}
+use Rattle.symbol.specs.Symbol.{verdictOf, entryOf, symbolIn}
+use Rattle.symbol_lookup.specs.Lookup.{symbolAt}
+use Rattle.symbol.proofs.Checks.{symbol-in-table, entry-whole, tables-inside}
+use Rattle.symbol_lookup.proofs.Lookup.{at-opened}
 use Rattle.csect.specs.declared.CsectAnswer.{CsectAnswer}
-use Rattle.csect.specs.Csect.{csectIn, csectAt}
-use Rattle.csect.proofs.Answers.{csect-opened}
+use Rattle.csect_lookup.specs.Lookup.{csectIn, csectAt}
+use Rattle.csect_lookup.proofs.Answers.{csect-opened}
 use Rattle.symbol_table.specs.Row.{nameSpan, symbolSpan}
 use Rattle.symbol_table.specs.Table.{OpenTables}
 use Rattle.symbol_table.proofs.Names.{name-accepted}

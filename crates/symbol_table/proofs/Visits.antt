@@ -18,14 +18,14 @@ use Rattle.symbol.specs.declared.Tables.{Tables}
 use Rattle.symbol.specs.declared.Symbol.{Symbol}
 use Rattle.symbol.specs.declared.SymbolAnswer.{SymbolAnswer}
 use Rattle.symbol.specs.declared.SymbolAnswer.the-variants as symbol
-use Rattle.symbol.specs.declared.WalkEnd.{WalkEnd}
-use Rattle.symbol.specs.declared.WalkAnswer.{WalkAnswer}
-use Rattle.symbol.specs.declared.WalkAnswer.the-variants.{Ended, Refused}
+use Rattle.walk.specs.declared.WalkEnd.{WalkEnd}
+use Rattle.walk.specs.declared.WalkAnswer.{WalkAnswer}
+use Rattle.walk.specs.declared.WalkAnswer.the-variants.{Ended, Refused}
 use Rattle.symbol.specs.Entry.{tablesOf}
 use Rattle.symbol.specs.Symbol.{symbolIn}
-use Rattle.symbol.specs.Walk.{endedAt, walkStep, walkFrom, walkIn, walkOf, reportOfWalk, walkReport}
+use Rattle.walk.specs.Walk.{endedAt, walkStep, walkFrom, walkIn, walkOf, reportOfWalk, walkReport}
 use Rattle.symbol.proofs.Checks.{symbol-in-table}
-use Rattle.symbol.proofs.Steps.{walk-refused, walk-ended}
+use Rattle.walk.proofs.Steps.{walk-refused, walk-ended}
 use Rattle.update.proofs.Stores.{sets-append, sets-whole}
 use Rattle.rows.specs.Rows.{roomCheck}
 use Rattle.rows.proofs.Laws.{room-exact}

@@ -13,8 +13,9 @@ use Rattle.format.specs.Range.{range}
 use Rattle.header.specs.Open.{openOf}
 use Rattle.symbol.specs.declared.Tables.{Tables}
 use Rattle.symbol.specs.Entry.{tablesOf, entryStart}
-use Rattle.symbol.specs.Symbol.{entryOf, symbolReport}
-use Rattle.csect.specs.Csect.{csectReport}
+use Rattle.symbol.specs.Symbol.{entryOf}
+use Rattle.symbol_lookup.specs.Lookup.{symbolReport}
+use Rattle.csect_lookup.specs.Lookup.{csectReport}
 use Rattle.report.specs.Report.{cSymbol, cCsect}
 
 -- where a name starts, and how many bytes it may take: the entry's own 8, or all from its offset to the string table's end. It ends at the first zero in them

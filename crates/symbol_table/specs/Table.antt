@@ -12,12 +12,12 @@ use Rattle.header.specs.Open.{openOf}
 use Rattle.symbol.specs.declared.Tables.{Tables}
 use Rattle.symbol.specs.declared.SymbolAnswer.{SymbolAnswer}
 use Rattle.symbol.specs.declared.SymbolAnswer.the-variants as symbol
-use Rattle.symbol.specs.declared.WalkEnd.{WalkEnd}
-use Rattle.symbol.specs.declared.WalkAnswer.{WalkAnswer}
-use Rattle.symbol.specs.declared.WalkAnswer.the-variants.{Ended, Refused}
+use Rattle.walk.specs.declared.WalkEnd.{WalkEnd}
+use Rattle.walk.specs.declared.WalkAnswer.{WalkAnswer}
+use Rattle.walk.specs.declared.WalkAnswer.the-variants.{Ended, Refused}
 use Rattle.symbol.specs.Entry.{tablesOf}
 use Rattle.symbol.specs.Symbol.{symbolIn}
-use Rattle.symbol.specs.Walk.{walkOf}
+use Rattle.walk.specs.Walk.{walkOf}
 use Rattle.rows.specs.Rows.{roomCheck}
 use Rattle.symbol_table.specs.Row.{symbolRow}
 use Rattle.refusal.specs.Order.{byVerdict, ifAccepted}

@@ -7,7 +7,7 @@ ghost use Rattle.word.specs.Zero.{ZeroEnd};
 ghost use Rattle.symbol.specs.Entry.{TablesInside};
 ghost use Rattle.symbol.specs.Name.{nameIn};
 ghost use Rattle.symbol.specs.Symbol.{verdictOf, symbolIn};
-ghost use Rattle.symbol.specs.Walk.{walkIn, reportOfWalk};
+ghost use Rattle.walk.specs.Walk.{walkIn, reportOfWalk};
 ghost use Rattle.symbol_table.specs.Row.{nameSpan, symbolRow};
 ghost use Rattle.symbol_table.specs.Table.{OpenTables, rowsFrom, roomBy, leftBy, symbolTable, symbolsAfter};
 use format::FileOffset;
@@ -18,7 +18,7 @@ use refusal::Verdict;
 use symbol::Symbol;
 use symbol::SymbolAnswer;
 use symbol::Tables;
-use symbol::WalkAnswer;
+use walk::WalkAnswer;
 
 // Where the name of the entry at the index `i` starts, and how many bytes it may take. Its end is not looked for:
 // many symbols may share one long string, and a listing that read it for each would not be linear.
@@ -68,7 +68,7 @@ fn symbol_row(file: &[u8], t: Tables, ends: u64, i: SymbolIndex, s: Symbol) -> [
     let name = name_span(file, t, i, field);
     let start = name.start;
     let y = report::report_symbol(SymbolAnswer::Found(s));
-    let c = report::report_csect(csect::csect_in(file, t, ends, i));
+    let c = report::report_csect(csect_lookup::csect_in(file, t, ends, i));
     [
         i.0,
         y.value,
@@ -114,7 +114,7 @@ fn list_symbols(file: &[u8], t: Tables, out: &mut [u64]) -> WalkAnswer
 {
     let strings = t.strings;
     let ends = symbol::names_end(file, strings);
-    let w = symbol::walk_tables(file, t, ends);
+    let w = walk::walk_tables(file, t, ends);
     let v = rows::check_room(out.len() as u64, 13 * w.visited);
     match v {
         Verdict::Refused(x) => WalkAnswer::Refused(x),

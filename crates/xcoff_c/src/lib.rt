@@ -3,9 +3,9 @@
 ghost use mathlib.Core.Path.{_≡_};
 ghost use Rattle.header.specs.Open.{openReport};
 ghost use Rattle.section_lookup.specs.Lookup.{sectionReport, sectionNameAt};
-ghost use Rattle.symbol.specs.Symbol.{symbolReport, symbolNameAt};
-ghost use Rattle.symbol.specs.Walk.{reportOfWalk, walkReport};
-ghost use Rattle.csect.specs.Csect.{csectReport};
+ghost use Rattle.symbol_lookup.specs.Lookup.{symbolReport, symbolNameAt};
+ghost use Rattle.walk.specs.Walk.{reportOfWalk, walkReport};
+ghost use Rattle.csect_lookup.specs.Lookup.{csectReport};
 ghost use Rattle.loadable.specs.Loadable.{moduleReport};
 ghost use Rattle.lookup.specs.Symbol.{loaderSymbolReport, loaderNameAt};
 ghost use Rattle.import_id.specs.Import.{importAt};
@@ -18,8 +18,9 @@ ghost use Rattle.plan.specs.Relocatable.{relocatableAt};
 ghost use Rattle.image.specs.Report.{reportOfCall};
 ghost use Rattle.replay.specs.Script.{callsOf};
 ghost use Rattle.symbol_table.specs.Table.{symbolTable, symbolsAfter};
-ghost use Rattle.loader_tables.specs.Table.{tableCheck, tableAfter};
-ghost use Rattle.loader_tables.specs.Rows.{loaderSymbols, relocations};
+ghost use Rattle.module_table.specs.Table.{tableCheck, tableAfter};
+ghost use Rattle.loader_symbol_table.specs.Rows.{loaderSymbols};
+ghost use Rattle.relocation_table.specs.Rows.{relocations};
 ghost use Rattle.import_table.specs.Imports.{imports};
 ghost use Rattle.report_image.specs.Report.{cCall, cSheet, cVerdict};
 ghost use Rattle.report.specs.Report.{cOpen, cSection, cRange, cSymbol, cWalk, cCsect, cModule, cLoaderSymbol};
@@ -70,7 +71,7 @@ pub extern "C" fn xcoff_section_name(file: &[u8], n: u64) -> CRange
 pub extern "C" fn xcoff_symbol(file: &[u8], i: u64) -> CSymbol
     ensures { λ r. ⌜ r ≡ cSymbol (symbolReport (now (file .entry)) (record { 0 = i })) ⌝ }
 {
-    report::report_symbol(symbol::symbol_at(file, SymbolIndex(i)))
+    report::report_symbol(symbol_lookup::symbol_at(file, SymbolIndex(i)))
 }
 
 // Its name.
@@ -78,7 +79,7 @@ pub extern "C" fn xcoff_symbol(file: &[u8], i: u64) -> CSymbol
 pub extern "C" fn xcoff_symbol_name(file: &[u8], i: u64) -> CRange
     ensures { λ r. ⌜ r ≡ cRange (symbolNameAt (now (file .entry)) (record { 0 = i })) ⌝ }
 {
-    report::report_range(symbol::symbol_name_range(file, SymbolIndex(i)))
+    report::report_range(symbol_lookup::symbol_name_range(file, SymbolIndex(i)))
 }
 
 // Walks the symbol table from its first entry.
@@ -86,7 +87,7 @@ pub extern "C" fn xcoff_symbol_name(file: &[u8], i: u64) -> CRange
 pub extern "C" fn xcoff_walk(file: &[u8]) -> CWalk
     ensures { λ r. ⌜ r ≡ cWalk (walkReport (now (file .entry))) ⌝ }
 {
-    report::report_walk(symbol::walk(file))
+    report::report_walk(walk::walk(file))
 }
 
 // The csect entry of the symbol with index `i`.
@@ -94,7 +95,7 @@ pub extern "C" fn xcoff_walk(file: &[u8]) -> CWalk
 pub extern "C" fn xcoff_csect(file: &[u8], i: u64) -> CCsect
     ensures { λ r. ⌜ r ≡ cCsect (csectReport (now (file .entry)) (record { 0 = i })) ⌝ }
 {
-    report::report_csect(csect::csect_at(file, SymbolIndex(i)))
+    report::report_csect(csect_lookup::csect_at(file, SymbolIndex(i)))
 }
 
 // Judges a file as a loadable module.
@@ -251,7 +252,7 @@ pub extern "C" fn xcoff_loader_symbol_table(file: &[u8], rows: &mut [u64]) -> CV
     ensures answer { λ r. ⌜ r ≡ cVerdict (reportOfVerdict (tableCheck loaderSymbols (now (file .entry)) (length (now (rows .entry))))) ⌝ }
     ensures rows { λ _. ⌜ now (rows .exit) ≡ tableAfter loaderSymbols (now (file .entry)) (now (rows .entry)) ⌝ }
 {
-    report_image::report_verdict(loader_tables::loader_symbol_table(file, rows))
+    report_image::report_verdict(loader_symbol_table::loader_symbol_table(file, rows))
 }
 
 // Lists its relocation entries: a row of 8 numbers for each.
@@ -260,7 +261,7 @@ pub extern "C" fn xcoff_relocation_table(file: &[u8], rows: &mut [u64]) -> CVerd
     ensures answer { λ r. ⌜ r ≡ cVerdict (reportOfVerdict (tableCheck relocations (now (file .entry)) (length (now (rows .entry))))) ⌝ }
     ensures rows { λ _. ⌜ now (rows .exit) ≡ tableAfter relocations (now (file .entry)) (now (rows .entry)) ⌝ }
 {
-    report_image::report_verdict(loader_tables::relocation_table(file, rows))
+    report_image::report_verdict(relocation_table::relocation_table(file, rows))
 }
 
 // Lists its import ids: a row of 6 numbers for each.

@@ -1,5 +1,5 @@
 use borrow.Author.Needs.{needs}
-use Rattle.header.specs.Tables.{blankSections}
+use Rattle.file_tables.specs.Tables.{blankSections}
 use Rattle.header.specs.Open.{refusedBy, blankSummary}
 use Rattle.header.proofs.refuse.Statement.{statement}
 use Rattle.header.proofs.refuse.Tie as tie

@@ -1,4 +1,4 @@
-use Rattle.loader_tables.proofs.Tables.{table-listed, table-refused}
+use Rattle.module_table.proofs.Tables.{table-listed, table-refused}
 use Rattle.import_table.specs.Imports.{imports}
 use Rattle.word.proofs.Test.{found}
 use borrow.Author.Needs.{needs}

@@ -2,7 +2,7 @@ use mathlib.Core.Path.{_∙_}
 use native.Mathlib.Omega.{arith}
 use Rattle.word.proofs.Test.{found}
 use Rattle.import_table.specs.Imports.{imports}
-use Rattle.loader_tables.proofs.Tables.{listed, not-listed, room-known}
+use Rattle.module_table.proofs.Tables.{listed, not-listed, room-known}
 use Rattle.import_table.proofs.Imports.{ids-few, import-rows, strings-there}
 use borrow.Author.Needs.{needs}
 use Rattle.import_table.proofs.list_imports.Statement.{statement}

@@ -1,5 +1,5 @@
 -- The lines of the first i sections stand in the buffer, each at most 49 bytes long.
-use Rattle.header.specs.Tables.{blankSection}
+use Rattle.file_tables.specs.Tables.{blankSection}
 use lib.ListN.{getD, take}
 use Rattle.listing.proofs.Lines.{lines-next}
 use Rattle.listing.specs.Listing.{sectionLine, sectionLines}

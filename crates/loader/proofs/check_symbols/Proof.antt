@@ -3,7 +3,7 @@ use mathlib.Core.Path.{_≡_, _∙_, sym}
 use borrow.Author.Needs.{needs}
 use Rattle.refusal.proofs.Order.{first-start, first-turn, first-stop, first-end, told}
 use Rattle.refusal.specs.Order.{firstOf}
-use Rattle.loader.specs.Symbol.{symbolCheck}
+use Rattle.loader_symbol.specs.Symbol.{symbolCheck}
 use Rattle.loader.proofs.check_symbols.Statement.{statement}
 use Rattle.loader.proofs.check_symbols.Tie as tie
 

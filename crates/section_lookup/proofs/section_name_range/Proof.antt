@@ -4,7 +4,7 @@ use borrow.Author.Needs.{needs}
 use Rattle.refusal.specs.declared.Verdict.the-variants.{Accepted}
 use Rattle.word.proofs.Test.{found}
 use Rattle.section_lookup.proofs.Lookup.{looked-up, known, inside, name-whole, name-refused, name-found}
-use Rattle.header.specs.Header.{sectionStart}
+use Rattle.file_header.specs.Header.{sectionStart}
 use Rattle.section_lookup.specs.Lookup.{lookupCheck, nameOf}
 use Rattle.section_lookup.proofs.section_name_range.Statement.{statement}
 use Rattle.section_lookup.proofs.section_name_range.Tie as tie

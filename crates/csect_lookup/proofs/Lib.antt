@@ -1,0 +1,3 @@
+-- The laws of the csect answers, for this crate's own proofs and the crates above.
+
+pub mod Answers

@@ -1,0 +1,42 @@
+use borrow.Author.Needs.{needs}
+use Rattle.csect_lookup.proofs.Answers.{csect-refused, csect-opened, csect-reported}
+use Rattle.symbol.proofs.Checks.{tables-inside}
+use Rattle.csect_lookup.proofs.csect_at.Statement.{statement}
+use Rattle.csect_lookup.proofs.csect_at.Tie as tie
+
+open-requires : tie.Need-open-requires
+open-requires c κs = search needs
+
+enum-known-v : tie.Need-enum-known-v
+enum-known-v c = search needs
+
+enum-told : tie.Need-enum-told
+enum-told c = search needs
+
+tables-of-requires : tie.Need-tables-of-requires
+tables-of-requires c κs = search needs
+
+names-end-requires : tie.Need-names-end-requires
+names-end-requires c κs = tables-inside (c .before .before .before .before .before .before .before .args .file .now) (c .before .before .before .before .before .«open» .ensures .0) (c .before .before .before .enum-told .given .1) (c .before .tables-of .ensures) .strings
+
+csect-in-requires : tie.Need-csect-in-requires
+csect-in-requires c κs = (tables-inside (c .before .before .before .before .before .before .before .before .args .file .now) (c .before .before .before .before .before .before .«open» .ensures .0) (c .before .before .before .before .enum-told .given .1) (c .before .before .tables-of .ensures), c .names-end .ensures)
+
+returns : tie.Need-returns
+returns c = let a = c .before .before .before .before .before .args in csect-reported _ _ (csect-refused (a .file .now) (a .i) (c .before .before .before .«open» .ensures .0) (c .before .v .given .1))
+
+returns-2 : tie.Need-returns-2
+returns-2 c = let a = c .before .before .before .before .before .before .before .before .before .args in csect-reported _ _ (rw (c .csect-in .ensures, c .before .before .before .tables-of .ensures) (csect-opened (a .file .now) (a .i) (c .before .before .before .before .before .before .before .«open» .ensures .0) (c .before .before .before .before .before .enum-told .given .1)))
+
+pub csect-at-spec : {M : Type 1} → statement M
+csect-at-spec =
+    tie.close
+    (tie.spec
+    open-requires
+    enum-known-v
+    enum-told
+    tables-of-requires
+    names-end-requires
+    csect-in-requires
+    returns
+    returns-2)

@@ -1,0 +1,2 @@
+-- What the contracts of `csect_lookup` cite.
+pub mod Lookup

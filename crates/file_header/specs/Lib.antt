@@ -1,0 +1,2 @@
+-- What the contracts of `file_header` cite.
+pub mod Header

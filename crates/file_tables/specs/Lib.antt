@@ -1,0 +1,2 @@
+-- What the contracts of `file_tables` cite.
+pub mod Tables

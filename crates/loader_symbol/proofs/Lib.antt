@@ -1,0 +1,4 @@
+-- The laws of a loader symbol.
+
+pub mod Records
+pub mod Strings

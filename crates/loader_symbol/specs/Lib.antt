@@ -1,0 +1,2 @@
+-- What the contracts of `loader_symbol` cite.
+pub mod Symbol

@@ -1,0 +1,2 @@
+-- What the contracts of `loader_symbol_table` cite.
+pub mod Rows

@@ -1,3 +1,0 @@
--- What the contracts of `loader_tables` cite.
-pub mod Table
-pub mod Rows

@@ -1,0 +1,3 @@
+-- The laws of a listed table.
+
+pub mod Tables

@@ -1,0 +1,2 @@
+-- What a listed table of a module is.
+pub mod Table

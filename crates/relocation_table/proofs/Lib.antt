@@ -1,0 +1,3 @@
+-- The laws of the table of relocation entries.
+
+pub mod Rows

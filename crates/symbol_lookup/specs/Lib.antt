@@ -1,0 +1,2 @@
+-- What the contracts of `symbol_lookup` cite.
+pub mod Lookup

@@ -1,0 +1,2 @@
+-- What the contracts of `walk` cite.
+pub mod Walk

@@ -1,0 +1,73 @@
+// The walk over the symbol table.
+ghost use mathlib.Core.Path.{_≡_};
+ghost use Rattle.format.specs.Range.{bytesOf};
+ghost use Rattle.word.specs.Zero.{ZeroEnd};
+ghost use Rattle.symbol.specs.Entry.{TablesInside};
+ghost use Rattle.walk.specs.Walk.{walkIn, walkOf, reportOfWalk, walkReport};
+use format::SymbolIndex;
+use refusal::Refusal;
+use refusal::Verdict;
+use symbol::SymbolAnswer;
+use symbol::Tables;
+
+// How many entries the walk visited, the index where it ended, and why: accepted at the table's end.
+pub struct WalkEnd {
+    pub visited: u64,
+    pub end: SymbolIndex,
+    pub cause: Verdict,
+}
+
+pub enum WalkAnswer {
+    Ended(WalkEnd),
+    Refused(Refusal),
+}
+
+// The walk over the tables of an opened file.
+pub fn walk_tables(file: &[u8], t: Tables, ends: u64) -> WalkEnd
+    requires { ⌜ TablesInside (now file) t × ZeroEnd (bytesOf (now file) (t .strings)) ends ⌝ }
+    ensures { λ r. ⌜ r ≡ walkIn (now (file .entry)) t ⌝ }
+{
+    let count = t.count;
+    let mut i: u64 = 0;
+    let mut visited: u64 = 0;
+    while i < count {
+        let a = symbol::symbol_in(file, t, ends, SymbolIndex(i));
+        match a {
+            SymbolAnswer::Refused(x) => {
+                return WalkEnd {
+                    visited,
+                    end: SymbolIndex(i),
+                    cause: Verdict::Refused(x),
+                };
+            }
+            SymbolAnswer::Found(s) => {
+                i = i + 1 + s.numaux;
+            }
+        }
+        visited += 1;
+    }
+    WalkEnd {
+        visited,
+        end: SymbolIndex(i),
+        cause: Verdict::Accepted,
+    }
+}
+
+// The walk over the symbol table; one that stops is an answer and names its cause.
+pub fn walk(file: &[u8]) -> WalkAnswer
+    ensures cause { λ r. ⌜ r ≡ walkOf (now (file .entry)) ⌝ }
+    ensures report { λ r. ⌜ reportOfWalk r ≡ walkReport (now (file .entry)) ⌝ }
+{
+    let o = header::open(file);
+    let v = o.verdict;
+    match v {
+        Verdict::Refused(x) => WalkAnswer::Refused(x),
+        Verdict::Accepted => {
+            let y = o.summary;
+            let t = symbol::tables_of(y);
+            let strings = t.strings;
+            let ends = symbol::names_end(file, strings);
+            WalkAnswer::Ended(walk_tables(file, t, ends))
+        }
+    }
+}
