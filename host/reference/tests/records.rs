@@ -1,5 +1,5 @@
-//! S-records by hand: lines from the public rules, a module of document 01's
-//! figures, and the ends of the address space and of the images.
+//! S-records by hand: lines from the public rules, a text that another program
+//! wrote, and the ends of the address space and of the images.
 
 use reference::bytes::put;
 use reference::records::{bad_line, parse, Bad, Fault, Record};
@@ -137,6 +137,40 @@ fn a_text_by_hand() {
     let records = TEXT.as_bytes();
     read_records(&file, &plan, records, &mut read_text, &mut read_data).unwrap();
     assert_eq!((read_text, read_data), (text, data));
+}
+
+/// 100 bytes at 10000004 and 70 at 20000010, entry 10000044, as srec_cat 1.64
+/// writes them (`-motorola -address-length=4 -output_block_size=32`, no header,
+/// no count of lines).
+const OTHER: &str = "\
+S32510000004030A11181F262D343B424950575E656C737A81888F969DA4ABB2B9C0C7CED5DCD6
+S32510000024E3EAF1F8FF060D141B222930373E454C535A61686F767D848B9299A0A7AEB5BCB6
+S32510000044C3CAD1D8DFE6EDF4FB020910171E252C333A41484F565D646B727980878E959C96
+S30910000064A3AAB1B8CC
+S32520000010FFFAF5F0EBE6E1DCD7D2CDC8C3BEB9B4AFAAA5A09B96918C87827D78736E69647A
+S325200000305F5A55504B46413C37322D28231E19140F0A0500FBF6F1ECE7E2DDD8D3CEC9C45A
+S30B20000050BFBAB5B0ABA655
+S70510000044A6
+";
+
+#[test]
+fn a_text_of_another_program() {
+    let file = module_of(Shape {
+        text: 100,
+        data: 60,
+        bss: 10,
+        entry: (1, 0x1000_0040),
+    });
+    let plan = plan(0x1000_0004, 0x2000_0010);
+    let text: Vec<u8> = (0..100u32).map(|i| (7 * i + 3) as u8).collect();
+    let data: Vec<u8> = (0..70u8)
+        .map(|i| 255u8.wrapping_sub(i.wrapping_mul(5)))
+        .collect();
+    assert_eq!(written(&file, &plan, &text, &data), Ok(OTHER.to_string()));
+    let (mut read_text, mut read_data) = (vec![0; 100], vec![0; 70]);
+    let records = OTHER.as_bytes();
+    read_records(&file, &plan, records, &mut read_text, &mut read_data).unwrap();
+    assert!(read_text == text && read_data == data);
 }
 
 #[test]
