@@ -87,9 +87,11 @@ fn images(file: &[u8], rng: &mut Rng) -> Vec<Op> {
         ]),
     ];
     ops.extend(sheets(&p, rng));
-    for plan in [&p, &q] {
-        ops.extend(records(file, plan, &text, &data));
-    }
+    ops.extend(
+        [&p, &q]
+            .into_iter()
+            .flat_map(|plan| records(file, plan, &text, &data)),
+    );
     ops
 }
 

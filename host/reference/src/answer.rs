@@ -86,6 +86,12 @@ pub fn arguments(op: &Op) -> String {
         } => {
             format!("{text:x},{data:x},{} {}", bracketed(list), hex(sheet))
         }
+        _ => record_arguments(op),
+    }
+}
+
+fn record_arguments(op: &Op) -> String {
+    match op {
         Op::RecordsLength(plan) => plan_text(plan),
         Op::WriteRecords {
             plan,

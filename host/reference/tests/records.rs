@@ -73,23 +73,16 @@ fn module_of(shape: Shape) -> Vec<u8> {
         put(&mut file, 20 + at, 2, value);
     }
     let first = start as u64;
-    for (i, (address, size, pointer, flags)) in [
+    let sections = [
         (0x1000_0000, text, first, 0x20),
         (0x2000_0000, data, first + text, 0x40),
         (0x2000_0000 + data, shape.bss, 0, 0x80),
         (0, 32, first + text + data, 0x1000),
-    ]
-    .into_iter()
-    .enumerate()
-    {
+    ];
+    for (i, (address, size, pointer, flags)) in sections.into_iter().enumerate() {
         let at = 92 + 40 * i;
-        for (part, value) in [
-            (8, address),
-            (12, address),
-            (16, size),
-            (20, pointer),
-            (36, flags),
-        ] {
+        let values = [address, address, size, pointer, flags];
+        for (part, value) in [8, 12, 16, 20, 36].into_iter().zip(values) {
             put(&mut file, at + part, 4, value);
         }
     }

@@ -83,13 +83,13 @@ fn hurt_call(rng: &mut Rng, aim: u64) -> Option<Hurt> {
         0..=2 => rich_with(rng, |_| ()),
         _ => rich_with(rng, |wish| wish.bits = Some(32)),
     };
-    let mut call = Call::any(rng, &made);
+    let mut lent = Lent::any(rng, &made);
     let mut item = 0;
     for problem in (aim..=8).rev() {
         if problem == 4 || (problem != aim && rng.chance(60)) {
             continue;
         }
-        let done = call.spoil(rng, &made, problem);
+        let done = lent.spoil(rng, &made, problem);
         if problem == aim {
             item = done?;
         }
@@ -100,11 +100,11 @@ fn hurt_call(rng: &mut Rng, aim: u64) -> Option<Hurt> {
         5 => CLASH,
         _ => ROOM,
     };
-    hurt(made, call.op(rng, aim), number, item)
+    hurt(made, lent.op(rng, aim), number, item)
 }
 
 /// What is lent.
-struct Call {
+struct Lent {
     plan: Plan,
     text: Vec<u8>,
     data: Vec<u8>,
@@ -113,8 +113,8 @@ struct Call {
     records: Vec<u8>,
 }
 
-impl Call {
-    fn any(rng: &mut Rng, made: &Made) -> Call {
+impl Lent {
+    fn any(rng: &mut Rng, made: &Made) -> Lent {
         let plan = if made.bits == 32 {
             clear_plan(rng, made)
         } else {
@@ -123,7 +123,7 @@ impl Call {
         let (text, data) = buffers(rng, made);
         let room = rng.bytes(length(made));
         let records = record_text(made, &plan, &text, &data);
-        Call {
+        Lent {
             plan,
             text,
             data,
