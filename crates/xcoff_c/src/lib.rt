@@ -269,9 +269,7 @@ pub extern "C" fn xcoff_write_records(
         text: VirtualAddress(at),
         data: VirtualAddress(dataat),
     };
-    report_image::report_verdict(srecord::write_records(
-        file, addresses, list, text, data, records,
-    ))
+    report_image::report_verdict(srecord::write_records(file, addresses, list, text, data, records))
 }
 
 // Reads S-records for a plan into two image buffers.
@@ -293,9 +291,7 @@ pub extern "C" fn xcoff_read_records(
         text: VirtualAddress(at),
         data: VirtualAddress(dataat),
     };
-    report_image::report_verdict(srecord::read_records(
-        file, addresses, list, records, text, data,
-    ))
+    report_image::report_verdict(srecord::read_records(file, addresses, list, records, text, data))
 }
 
 // Lists the symbols that the walk visits: a row of 13 numbers for each.
