@@ -65,7 +65,6 @@ impl Commands {
         assert_eq!(self.run("plan fixed -o fixed.sheet"), 0);
         assert_eq!(self.run("plan fixed --text 1000 --data 80000 -o fixed.other"), 0);
         assert_eq!(self.run("build fixed fixed.sheet -o fixed.text fixed.data"), 0);
-        assert_eq!(self.run("records fixed fixed.sheet -o fixed.records"), 0);
     }
 
     fn all(&self, input: &[u8]) {
@@ -79,12 +78,10 @@ impl Commands {
         }
         self.as_sheet();
         self.as_image(input);
-        self.as_records();
         if module == 0 {
             let image = xcoff::module(input).expect("it is listed as one").image;
             if image <= LARGE {
                 self.images(input);
-                self.records();
             }
         }
         let names = fs::read_dir(".").unwrap().map(|entry| entry.unwrap().file_name());
@@ -112,24 +109,6 @@ impl Commands {
         assert!(self.run("move fixed fixed.sheet fixed.other fixed.text m -o other.text other.data") <= 1);
         assert!(self.run("move fixed fixed.sheet fixed.other m fixed.data --unchecked -o other.text other.data") <= 1);
         assert_eq!(fs::read("m").unwrap(), input, "the input is changed");
-    }
-
-    fn as_records(&self) {
-        let read = self.run("images fixed fixed.sheet m -o other.text other.data");
-        assert!(read <= 1);
-        let checked = self.run("check fixed fixed.sheet --records m");
-        assert!(checked <= 1 && checked >= read);
-    }
-
-    /// The records of a module, where it is of XCOFF32 and its images are apart.
-    fn records(&self) {
-        let written = self.run("records m s -o r");
-        assert!(written <= 1);
-        if written == 0 {
-            assert_eq!(self.run("check m s --records r"), 0);
-            assert_eq!(self.run("images m s r -o t2 d2"), 0);
-            assert_eq!(self.run("check m s t2 d2"), 0);
-        }
     }
 
     /// A module: planned, built, moved there and back.

@@ -190,36 +190,33 @@ fn any_bytes_are_written_and_read_back() {
 }
 
 #[test]
-fn form_comes_before_clash_and_clash_before_room() {
-    let refused = |number| Err(Refusal { number, item: 0 });
-    let wide = real("exe-imports-64");
-    let both = plan(&wide, 0x1000, 0x1000);
-    assert_eq!(
-        records_length(&wide, &both),
-        Err(Refusal {
-            number: 23,
-            item: 0
-        })
-    );
-    assert_eq!(write_records(&wide, &both, &[], &[]), refused(23));
-    let narrow = real("exe-imports-32");
-    let (text, data) = (0xa0, 0xa0);
-    for (at, clashes) in [
-        (0x1000 - text, false),
-        (0x1001 - text, true),
-        (0x0fff + data, true),
-        (0x1000 + data, false),
+fn form_comes_before_clash() {
+    let file = real("exe-imports-64");
+    let plan = plan(&file, 0x1000, 0x1000);
+    let form = Refusal {
+        number: 23,
+        item: 0,
+    };
+    assert_eq!(records_length(&file, &plan), Err(form));
+    assert_eq!(write_records(&file, &plan, &[], &[]), Err(form));
+    let read = read_records(&file, &plan, &[], &mut [], &mut []);
+    assert_eq!(read, Err(form));
+}
+
+/// Both images have 160 bytes: right before and right behind each other they do not clash, a byte nearer they do.
+#[test]
+fn images_that_share_an_address_clash_before_room() {
+    let file = real("exe-imports-32");
+    for (text, clash) in [
+        (0xf60, false),
+        (0xf61, true),
+        (0x109f, true),
+        (0x10a0, false),
     ] {
-        let p = plan(&narrow, at, 0x1000);
-        let expected = if clashes { 24 } else { 20 };
-        assert_eq!(records_length(&narrow, &p).is_err(), clashes);
-        let answer = read_records(&narrow, &p, &[], &mut [], &mut []);
-        assert_eq!(
-            answer,
-            Err(Refusal {
-                number: expected,
-                item: 0
-            })
-        );
+        let plan = plan(&file, text, 0x1000);
+        assert_eq!(records_length(&file, &plan).is_err(), clash);
+        let refused = read_records(&file, &plan, &[], &mut [], &mut []).unwrap_err();
+        assert_eq!(refused.number, if clash { 24 } else { 20 });
+        assert_eq!(refused.item, 0);
     }
 }
