@@ -495,8 +495,12 @@ fn am_root(folder: &Folder) -> bool {
 fn as_nobody(folder: &Folder, args: &[&str]) -> Ran {
     let mut command = folder.command(args);
     if am_root(folder) {
-        fs::copy(env!("CARGO_BIN_EXE_xcoff"), folder.path("program")).unwrap();
-        command = Command::new(folder.path("program"));
+        let program = folder.path("program");
+        // Not by this process: a child of another test could hold the copy open for writing, and it could not be run.
+        let mut copy = Command::new("cp");
+        copy.arg(env!("CARGO_BIN_EXE_xcoff")).arg(&program);
+        assert!(copy.status().unwrap().success());
+        command = Command::new(program);
         command
             .current_dir(folder.path(""))
             .args(args)

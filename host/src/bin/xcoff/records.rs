@@ -9,6 +9,7 @@ use crate::images::write;
 use crate::load::{apart, Loaded, Sheet};
 use crate::output::{entry_words, say_done};
 use crate::problem::Problem;
+use std::slice;
 
 pub fn records(args: &Arguments) -> Result<(), Problem> {
     let out = args.paths("-o").expect("the syntax asks for it")[0];
@@ -56,9 +57,8 @@ pub fn images(args: &Arguments) -> Result<(), Problem> {
     ];
     apart(args, &[("TEXT", out[0]), ("DATA", out[1])], &inputs)?;
     let file = Loaded::read(args.path(0))?;
-    let sheet = [Sheet::read(args.path(1))?];
-    let records = RecordText::read(args.path(2), &file, &sheet)?;
-    let [sheet] = sheet;
+    let sheet = Sheet::read(args.path(1))?;
+    let records = RecordText::read(args.path(2), &file, slice::from_ref(&sheet))?;
     let found = records.images(&file, &sheet)?;
     check_fields(args, &file, &sheet, &found)?;
     let (_, reached) = file.build_sheet(&sheet)?;
