@@ -6,7 +6,7 @@ use native.Mathlib.Omega.{arith}
 use lib.ListN.{length, getD, set, drop, drop-of-length-le}
 use lib.Seq.{sets, drop-cons}
 use Rattle.update.proofs.Stores.{sets-whole}
-use Rattle.record_text.specs.Record.{digitOf, hexOf, sumOf, digitIn, byteIn, dataAt}
+use Rattle.record_text.specs.Record.{digitOf, hexOf, digitIn, byteIn, dataAt}
 use Rattle.record_text.specs.Count.{misses, valuesAt, digitsOf, joined}
 use Rattle.record_text.proofs.Hex.{digitIn-lt, length-data}
 
@@ -82,16 +82,6 @@ joined-stored v o to i h = let e : to + (i + 1) ≡ suc (to + i) = omega arith i
 pub joined-end : (v o : List ℕ) (q i : ℕ) → length v ≤ 2 * i → sets o q (joined (drop (2 * i) v)) ≡ o
 unfolding joined
 joined-end v o q i h = rw (drop-of-length-le v {i = 2 * i} h) refl
-
--- ---- a sum by what is left
-
-pub sum-left : (b : List ℕ) (i : ℕ) → i < length b → sumOf (drop i b) ≡ getD b i 0 + sumOf (drop (i + 1) b)
-unfolding sumOf
-sum-left b i h = let e : i + 1 ≡ suc i = omega arith in rw (drop-cons b i 0 h, e) refl
-
-pub sum-done : (b : List ℕ) (i : ℕ) → length b ≤ i → sumOf (drop i b) ≡ 0
-unfolding sumOf
-sum-done b i h = rw (drop-of-length-le b {i = i} h) refl
 
 -- ---- a whole line
 

@@ -1,7 +1,7 @@
 use Prim.Native.Nat.{_+_, _-_, _*_, _≤_}
 use lib.ListN.{length, drop}
 use Rattle.record_text.specs.Record.{sumOf}
-use Rattle.record_text.proofs.Values.{sum-left, sum-done}
+use Rattle.record_text.proofs.Stores.{sum-left, sum-done}
 use mathlib.Core.Path.{_≡_, _∙_, ap, sym, refl}
 use native.Mathlib.Omega.{arith}
 use borrow.Author.Needs.{needs}
@@ -9,10 +9,10 @@ use Rattle.record_text.proofs.sum_bytes.Statement.{statement}
 use Rattle.record_text.proofs.sum_bytes.Tie as tie
 
 abbrev Inv-loop : tie.InvT-loop
-Inv-loop b sum₀ i₀ sum i = (i ≤ 32) × (sum + sumOf (drop i b) ≡ sumOf b) × (sum ≤ 255 * i)
+Inv-loop b sum₀ i₀ sum i = (i ≤ length b) × (sum + sumOf (drop i b) ≡ sumOf b) × (sum ≤ 255 * i)
 
 abbrev μ-loop : tie.MeasureT-loop
-μ-loop b sum₀ i₀ sum i = 32 - i
+μ-loop b sum₀ i₀ sum i = length b - i
 
 loop-holds : tie.Need-loop-holds Inv-loop μ-loop
 loop-holds c = (omega arith, omega arith, omega arith)
