@@ -51,8 +51,13 @@
  *                same
  *   19 PLAN      an image passes the end of the address space, or an       0 text, 1 data, or the import's index
  *                address of XCOFF32 has more than 32 bits
- *   20 ROOM      lent memory not exactly as long as needed                 0 text, sheet or rows; 1 data; 2 list
+ *   20 ROOM      lent memory not exactly as long as needed                 0 text, sheet, rows or records; 1 data;
+ *                                                                          2 list
  *   21 SHEET     not a plan sheet, or one of the wrong length              0
+ *   22 RECORD    a line of the record text is not as it must be, is        the line, from 1
+ *                missing, or is one too many
+ *   23 FORM      S-records of an XCOFF64 module                            0
+ *   24 CLASH     the text and data images share an address                 0
  *
  * Sections are numbered from 1, symbols from 0, loader symbols from 3 (0, 1 and 2 stand for text, data and bss), import
  * ids from 0. An index may be any number: INDEX is the answer where there is no such thing.
@@ -264,6 +269,37 @@ xcoff_call_answer xcoff_move(const uint8_t *file, size_t length, uint64_t from_t
  */
 void xcoff_replay(const uint8_t *file, size_t length, const uint64_t *script, size_t numbers, uint8_t *text,
                   size_t text_length, uint8_t *data, size_t data_length);
+
+/*
+ * The images of an XCOFF32 module as Motorola S-records: S3 lines of 32 data bytes, fewer only in an image's last line,
+ * the text image first, then the data image, closed by an S7 line with the moved entry address, or 0 where there is none.
+ * Upper-case hex digits, one newline a line. The plan and both images are as for xcoff_build.
+ */
+typedef struct xcoff_length_answer {
+    uint64_t number;
+    uint64_t item;
+    uint64_t length;
+} xcoff_length_answer;
+
+/* How many bytes the record text of a module's images for a plan has. */
+xcoff_length_answer xcoff_records_length(const uint8_t *file, size_t length, uint64_t text_address, uint64_t data_address,
+                                         const uint64_t *list, size_t places);
+
+/*
+ * Writes the two images, as they are, into `records`, which has exactly that length. A refusal leaves `records` as it
+ * was. The order of refusals: the module's, ROOM 2, PLAN, FORM, CLASH, ROOM 0 and 1 for the images, ROOM 0 for `records`.
+ */
+xcoff_verdict xcoff_write_records(const uint8_t *file, size_t length, uint64_t text_address, uint64_t data_address,
+                                  const uint64_t *list, size_t places, const uint8_t *text, size_t text_length,
+                                  const uint8_t *data, size_t data_length, uint8_t *records, size_t records_length);
+
+/*
+ * Reads records into two image buffers. Accepted are exactly the lines that xcoff_write_records would write, with any
+ * data bytes; RECORD, the last refusal, names the first line that is not. A refusal leaves both buffers as they were.
+ */
+xcoff_verdict xcoff_read_records(const uint8_t *file, size_t length, uint64_t text_address, uint64_t data_address,
+                                 const uint64_t *list, size_t places, const uint8_t *records, size_t records_length,
+                                 uint8_t *text, size_t text_length, uint8_t *data, size_t data_length);
 
 /*
  * Tables: one call lists all elements, a row of numbers for each, and judges the file once. `numbers` is how many 64-bit

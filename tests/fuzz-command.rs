@@ -65,6 +65,7 @@ impl Commands {
         assert_eq!(self.run("plan fixed -o fixed.sheet"), 0);
         assert_eq!(self.run("plan fixed --text 1000 --data 80000 -o fixed.other"), 0);
         assert_eq!(self.run("build fixed fixed.sheet -o fixed.text fixed.data"), 0);
+        assert_eq!(self.run("records fixed fixed.sheet -o fixed.srec"), 0);
     }
 
     fn all(&self, input: &[u8]) {
@@ -78,6 +79,7 @@ impl Commands {
         }
         self.as_sheet();
         self.as_image(input);
+        self.as_records();
         if module == 0 {
             let image = xcoff::module(input).expect("it is listed as one").image;
             if image <= LARGE {
@@ -111,6 +113,19 @@ impl Commands {
         assert_eq!(fs::read("m").unwrap(), input, "the input is changed");
     }
 
+    fn as_records(&self) {
+        let read = self.run("images fixed fixed.sheet m --unchecked -o other.text other.data");
+        assert!(read <= 1);
+        let checked = self.run("images fixed fixed.sheet m -o third.text third.data");
+        assert!(checked <= 1 && checked >= read);
+        let equal = self.run("check fixed fixed.sheet --records m --or fixed.other --or m");
+        assert!(equal <= 1);
+        if read == 0 {
+            assert_eq!(self.run("records fixed fixed.sheet --images other.text other.data --unchecked -o other.srec"), 0);
+            assert_eq!(fs::read("other.srec").unwrap(), fs::read("m").unwrap(), "other records");
+        }
+    }
+
     /// A module: planned, built, moved there and back.
     fn images(&self, input: &[u8]) {
         let hash = input.iter().fold(0xcbf29ce484222325u64, |h, &b| (h ^ b as u64).wrapping_mul(0x100000001b3));
@@ -118,6 +133,7 @@ impl Commands {
         assert_eq!(self.run("sheet s m"), 0);
         assert_eq!(self.run("build m s -o t d"), 0);
         assert_eq!(self.run("check m s t d"), 0);
+        self.records();
         assert!(self.run("plan m --import @3=ffffffff --text 0 -o s2") <= 2);
         let shift = if hash & 1 == 0 { 36 } else { hash >> 1 & 31 };
         let planned = self.run(&format!(
@@ -139,6 +155,19 @@ impl Commands {
         assert_eq!(self.run("check m s2 t d"), 0);
         assert_eq!(self.run("move m s2 s t d"), 0);
         assert_eq!(self.run("check m s t d"), 0);
+    }
+
+    /// Its images as records and back; an XCOFF64 module or one whose images overlap has none.
+    fn records(&self) {
+        let written = self.run("records m s -o r");
+        assert!(written <= 1);
+        assert_eq!(self.run("records m s --images t d -o r2"), written);
+        if written == 0 {
+            assert_eq!(fs::read("r").unwrap(), fs::read("r2").unwrap());
+            assert_eq!(self.run("check m s --records r"), 0);
+            assert_eq!(self.run("images m s r -o t2 d2"), 0);
+            assert_eq!(self.run("check m s t2 d2"), 0);
+        }
     }
 
     fn run(&self, line: &str) -> u8 {

@@ -1,8 +1,8 @@
 /*
  * Calls every function of include/xcoff.h on any bytes and aborts where an answer breaks a promise of the header.
  *
- * The file, the lists, the rows and the images lie at the very end of pages that are followed by a page that cannot be
- * touched; then at the very start of pages after such a page. So a read or write outside them is a fault, although the
+ * The file, the lists, the rows, the images and the records lie at the very end of pages that are followed by a page that
+ * cannot be touched; then at the very start of pages after such a page. So a read or write outside them is a fault, although the
  * library is compiled without bounds checks.
  *
  * With AFL (tests/fuzz) the input is what AFL gives. Run with arguments, it takes each file named and prints a digest of
@@ -53,7 +53,7 @@ static void refusal(const void *answer, size_t size)
     uint64_t field;
     size_t i;
     memcpy(&field, answer, sizeof field);
-    PROMISE(field <= 21);
+    PROMISE(field <= 24);
     for (i = 16; field != 0 && i < size; i++)
         PROMISE(((const uint8_t *)answer)[i] == 0);
     note(answer, size);
@@ -88,12 +88,12 @@ static void *lend(area a, size_t n)
     return at_the_end ? a.start + ROOM - n : a.start;
 }
 
-static area file_area, text_area, data_area, text2_area, data2_area, list_area, list2_area, rows_area, sheet_area, script_area;
+static area file_area, text_area, data_area, text2_area, data2_area, list_area, list2_area, rows_area, sheet_area, script_area, records_area;
 
 static void map_all(void)
 {
     area *all[] = {&file_area, &text_area, &data_area, &text2_area, &data2_area, &list_area, &list2_area, &rows_area,
-                   &sheet_area, &script_area};
+                   &sheet_area, &script_area, &records_area};
     size_t i;
     for (i = 0; i < sizeof all / sizeof all[0]; i++)
         *all[i] = map();
@@ -560,6 +560,211 @@ static void images(xcoff_module_answer m)
     }
 }
 
+/* ---- records */
+
+static xcoff_length_answer records_length(plan p)
+{
+    return xcoff_records_length(file, length, p.text, p.data, p.list, p.places);
+}
+
+static xcoff_verdict write_records(plan p, const uint8_t *text, size_t tl, const uint8_t *data, size_t dl, uint8_t *records, size_t n)
+{
+    return xcoff_write_records(file, length, p.text, p.data, p.list, p.places, text, tl, data, dl, records, n);
+}
+
+static xcoff_verdict read_records(plan p, const uint8_t *records, size_t n, uint8_t *text, size_t tl, uint8_t *data, size_t dl)
+{
+    return xcoff_read_records(file, length, p.text, p.data, p.list, p.places, records, n, text, tl, data, dl);
+}
+
+static size_t line(char *out, char type, uint64_t address, const uint8_t *data, size_t n)
+{
+    unsigned long at = (unsigned long)address;
+    unsigned sum = (unsigned)(n + 5 + (at >> 24 & 255) + (at >> 16 & 255) + (at >> 8 & 255) + (at & 255));
+    size_t end = (size_t)sprintf(out, "S%c%02X%08lX", type, (unsigned)n + 5, at), i;
+    for (i = 0; i < n; i++) {
+        end += (size_t)sprintf(out + end, "%02X", data[i]);
+        sum += data[i];
+    }
+    return end + (size_t)sprintf(out + end, "%02X\n", 255 - sum % 256);
+}
+
+/* Whether the lines of an image stand there; `*at` goes on behind them. */
+static int lines_are(const uint8_t *records, size_t *at, uint64_t address, const uint8_t *image, size_t n)
+{
+    char expected[128];
+    size_t i, k;
+    for (i = 0; i < n; i += 32) {
+        k = line(expected, '3', address + i, image + i, n - i < 32 ? n - i : 32);
+        if (memcmp(records + *at, expected, k) != 0)
+            return 0;
+        *at += k;
+    }
+    return 1;
+}
+
+static uint64_t newlines(const uint8_t *bytes, size_t n)
+{
+    uint64_t count = 0;
+    while (n-- > 0)
+        count += bytes[n] == '\n';
+    return count;
+}
+
+/* What a refused call must leave: both image buffers as they were filled. */
+static void refused_records(plan p, const uint8_t *records, size_t n, size_t tl, size_t dl, uint64_t bad)
+{
+    uint8_t *text = lend(text2_area, tl), *data = lend(data2_area, dl);
+    xcoff_verdict v;
+    fill(text, tl);
+    fill(data, dl);
+    v = read_records(p, records, n, text, tl, data, dl);
+    ANSWER(v);
+    PROMISE(REFUSED(v, 22, bad));
+    untouched(text, tl);
+    untouched(data, dl);
+}
+
+/* A text that is too short, too long, or has a wrong byte: the refusal names the line. `good` is the right one. */
+static void bad_records(plan p, const uint8_t *good, size_t n, size_t tl, size_t dl)
+{
+    size_t at = random_number() % n;
+    uint64_t before = newlines(good, at), all = newlines(good, n);
+    uint8_t *records = lend(records_area, at);
+    step = "bad records";
+    memcpy(records, good, at);
+    refused_records(p, records, at, tl, dl, before + 1);
+    records = lend(records_area, n);
+    memcpy(records, good, n);
+    records[at] ^= 1 + random_number() % 255;
+    refused_records(p, records, n, tl, dl, before + 1);
+    records = lend(records_area, n + 1);
+    memcpy(records, good, n);
+    records[n] = (uint8_t)any_number();
+    refused_records(p, records, n + 1, tl, dl, all + 1);
+    refused_records(p, file, length, tl, dl, 1);
+}
+
+/* Any room but the right one is refused, the images' first. */
+static void room_for_records(plan p, const uint8_t *text, size_t tl, const uint8_t *data, size_t dl, size_t n)
+{
+    int by;
+    step = "room for records";
+    for (by = -1; by <= 1; by += 2) {
+        uint8_t *records = lend(records_area, n + by);
+        xcoff_verdict v;
+        fill(records, n + by);
+        v = write_records(p, text, tl, data, dl, records, n + by);
+        PROMISE(REFUSED(v, 20, 0));
+        v = write_records(p, text, tl, data, dl - (dl > 0), records, n + by);
+        PROMISE(dl > 0 ? REFUSED(v, 20, 1) : REFUSED(v, 20, 0));
+        v = read_records(p, records, n + by, NULL, 0, NULL, 0);
+        PROMISE(tl > 0 ? REFUSED(v, 20, 0) : dl > 0 ? REFUSED(v, 20, 1) : v.number == 22);
+        untouched(records, n + by);
+    }
+}
+
+/* The images of an accepted plan as lines, and read back. */
+static void good_records(plan p, uint64_t entry, const uint8_t *text, size_t tl, const uint8_t *data, size_t dl, size_t n)
+{
+    static uint8_t kept[4 * HEAVY];
+    uint8_t *records = lend(records_area, n), *text2 = lend(text2_area, tl), *data2 = lend(data2_area, dl);
+    char last[128];
+    size_t at = 0;
+    xcoff_verdict v;
+    step = "records written";
+    fill(records, n);
+    v = write_records(p, text, tl, data, dl, records, n);
+    ANSWER(v);
+    PROMISE(v.number == 0);
+    note(records, n);
+    PROMISE(lines_are(records, &at, p.text, text, tl) && lines_are(records, &at, p.data, data, dl));
+    PROMISE(n - at == line(last, '7', entry, NULL, 0) && memcmp(records + at, last, n - at) == 0);
+    step = "records read";
+    fill(text2, tl);
+    fill(data2, dl);
+    v = read_records(p, records, n, text2, tl, data2, dl);
+    PROMISE(v.number == 0);
+    PROMISE(memcmp(text, text2, tl) == 0 && memcmp(data, data2, dl) == 0);
+    memcpy(kept, records, n);
+    bad_records(p, kept, n, tl, dl);
+}
+
+/* No plan for records: all three calls say why, and nothing is written. */
+static void no_records(plan p, size_t tl, size_t dl, uint64_t number, uint64_t item)
+{
+    uint8_t *records = lend(records_area, 100), *text = lend(text2_area, tl), *data = lend(data2_area, dl);
+    xcoff_length_answer n = records_length(p);
+    xcoff_verdict w, r;
+    fill(records, 100);
+    fill(text, tl);
+    fill(data, dl);
+    w = write_records(p, text, tl, data, dl, records, 100);
+    r = read_records(p, records, 100, text, tl, data, dl);
+    ANSWER(n);
+    PROMISE(REFUSED(n, number, item) && REFUSED(w, number, item) && REFUSED(r, number, item));
+    untouched(records, 100);
+    untouched(text, tl);
+    untouched(data, dl);
+}
+
+static int share_an_address(uint64_t a, uint64_t n, uint64_t b, uint64_t k)
+{
+    return n > 0 && k > 0 && a < b + k && b < a + n;
+}
+
+/* A plan: the recorded addresses; data right behind text, or one byte sooner; any addresses. */
+static plan records_plan(xcoff_module_answer m, int kind)
+{
+    plan p;
+    size_t i;
+    p.places = m.symbols;
+    p.list = lend(list_area, 8 * p.places);
+    for (i = 0; i < p.places; i++)
+        p.list[i] = random_number() & UINT32_MAX;
+    p.text = kind == 0 ? m.text.address : kind == 3 ? any_number() : random_number() & UINT32_MAX;
+    p.data = kind == 0 ? m.data.address : kind == 3 ? any_number() : p.text + m.text.size - (kind == 2);
+    return p;
+}
+
+static void records_of(xcoff_module_answer m, plan p)
+{
+    size_t tl = m.text.size, dl = m.image, n = 15 * ((tl + 31) / 32 + (dl + 31) / 32 + 1) + 2 * (tl + dl);
+    uint8_t *text = lend(text_area, tl), *data = lend(data_area, dl);
+    xcoff_call_answer b;
+    xcoff_length_answer l;
+    step = "records";
+    fill(text, tl);
+    fill(data, dl);
+    b = build(p, text, tl, data, dl);
+    if (b.number != 0)
+        no_records(p, tl, dl, b.number, b.item);
+    else if (m.bits == 64)
+        no_records(p, tl, dl, 23, 0);
+    else if (share_an_address(p.text, tl, p.data, dl))
+        no_records(p, tl, dl, 24, 0);
+    else {
+        l = records_length(p);
+        ANSWER(l);
+        PROMISE(l.number == 0 && l.length == n);
+        room_for_records(p, text, tl, data, dl, n);
+        good_records(p, b.has_entry ? b.entry : 0, text, tl, data, dl, n);
+    }
+}
+
+static void records(xcoff_module_answer m)
+{
+    plan p = records_plan(m, 0);
+    if (m.number != 0) {
+        no_records(p, 100, 60, m.number, m.item);
+        return;
+    }
+    if (m.text.size + m.image >= HEAVY)
+        return;
+    records_of(m, p);
+    records_of(m, records_plan(m, 1 + (int)(random_number() % 3)));
+}
+
 /* The input as a sheet, a sheet of its own, and the input as a list of calls. */
 static void sheets(xcoff_module_answer m)
 {
@@ -633,8 +838,12 @@ static void nothing(void)
     xcoff_open_answer o = xcoff_open(NULL, 0);
     xcoff_walk_answer t = xcoff_symbol_table(NULL, 0, NULL, 0);
     xcoff_verdict v = xcoff_import_table(NULL, 0, NULL, 0);
+    xcoff_length_answer l = xcoff_records_length(NULL, 0, 0, 0, NULL, 0);
+    xcoff_verdict w = xcoff_write_records(NULL, 0, 0, 0, NULL, 0, NULL, 0, NULL, 0, NULL, 0);
+    xcoff_verdict r = xcoff_read_records(NULL, 0, 0, 0, NULL, 0, NULL, 0, NULL, 0, NULL, 0);
     step = "nothing";
     PROMISE(REFUSED(o, 1, 0) && REFUSED(t, 1, 0) && REFUSED(v, 1, 0));
+    PROMISE(REFUSED(l, 1, 0) && REFUSED(w, 1, 0) && REFUSED(r, 1, 0));
 }
 
 static uint64_t run(const uint8_t *input, size_t n)
@@ -657,6 +866,7 @@ static uint64_t run(const uint8_t *input, size_t n)
         m = module(o);
         tables(m);
         images(m);
+        records(m);
         sheets(m);
         step = "the end";
         PROMISE(memcmp(copy, input, n) == 0);

@@ -3,6 +3,7 @@
 use crate::common::made::Module;
 use crate::common::orders::{module, ORDERS};
 use crate::common::plain::Build;
+use crate::common::records::Records;
 use crate::common::turns::{by_turns, Work};
 use crate::files::Symbols;
 use crate::object_rows::our_symbols;
@@ -18,6 +19,7 @@ const SYMBOLS: [u32; 5] = [1_000, 5_000, 25_000, 125_000, 500_000];
 pub fn rows(report: &mut Report) {
     entries(report);
     files(report);
+    records(report);
     symbols(report);
 }
 
@@ -56,6 +58,23 @@ fn files(report: &mut Report) {
         report.grown(&format!("{bits} memcpy of the same bytes"), &times, &sizes);
         let times = each(report, &mut states, &Build::judge);
         report.grown(&format!("{bits} module check, time in all"), &times, &[1.0; 5]);
+    }
+}
+
+/// Images of so many MiB, text and data together, as S-records.
+fn records(report: &mut Report) {
+    let sizes = MIB.map(|n| format!("{n} MiB"));
+    report.growth("growth: S-records, time for one MiB of images", &sizes);
+    let mut states = MIB.map(|n| Records::new(n << 20));
+    assert!(states.iter_mut().all(Records::same));
+    for (what, work) in [
+        ("written", &Records::write as Work<Records>),
+        ("written by the plain loop", &Records::plain_write),
+        ("read", &Records::read),
+        ("read by the plain loop", &Records::plain_read),
+    ] {
+        let times = each(report, &mut states, work);
+        report.grown(&format!("XCOFF32 records {what}"), &times, &MIB.map(|n| n as f64));
     }
 }
 

@@ -1,11 +1,18 @@
-//! Builds and moves against the least that any program must do.
+//! Builds, moves and S-records against the least that any program must do.
 
 use crate::common::plain::{Build, Move};
+use crate::common::records::measure;
 use crate::common::turns::by_turns;
 use crate::report::{name, Report};
 use crate::FORMATS;
 
 pub fn rows(report: &mut Report) {
+    builds(report);
+    moves(report);
+    records(report);
+}
+
+fn builds(report: &mut Report) {
     report.against("memcpy and memset of the same bytes");
     for format in FORMATS {
         let bits = name(format);
@@ -20,6 +27,9 @@ pub fn rows(report: &mut Report) {
             report.versus(&what, &mut state, &Build::whole, &Build::copy);
         }
     }
+}
+
+fn moves(report: &mut Report) {
     report.against("the same loop in plain Rust, which judges nothing");
     for format in FORMATS {
         let bits = name(format);
@@ -36,4 +46,17 @@ pub fn rows(report: &mut Report) {
             plain,
         );
     }
+}
+
+fn records(report: &mut Report) {
+    let (written, read) = (
+        "XCOFF32 records written, 16 MiB of images",
+        "XCOFF32 records read, 16 MiB of images",
+    );
+    let times = measure(report.time);
+    report.row(written, times.write, times.plain_write);
+    report.row(read, times.read, times.plain_read);
+    report.against("memcpy of the record text");
+    report.row(written, times.write, times.copy);
+    report.row(read, times.read, times.copy);
 }

@@ -1,9 +1,11 @@
-//! Builds and moves beside the least that any program must do: the raw bytes copied, and the entries applied in a plain loop.
+//! Builds, moves and S-records beside the least that any program must do: the raw bytes copied, the entries applied and the lines
+//! written and read in plain loops.
 //! Run by `cargo bench --offline`; it prints times. Each pair of figures comes from one process and the same buffers.
 
 mod common;
 
 use common::plain::{Build, Move, ENTRIES};
+use common::records::measure;
 use common::turns::by_turns;
 use std::time::Duration;
 use xcoff::Format;
@@ -40,9 +42,25 @@ fn moved(format: Format) {
     );
 }
 
+/// 16 MiB of images as S-records against the plain loops, and against a copy of the record text.
+fn records() {
+    let t = measure(TIME);
+    for (what, ours, plain) in [("written", t.write, t.plain_write), ("read", t.read, t.plain_read)] {
+        println!(
+            "16 MiB of images as S-records {what}: {:.2} ms, plain loop {:.2} ms: {:.2}; memcpy of the text {:.2} ms: {:.2}",
+            ours / 1e6,
+            plain / 1e6,
+            ours / plain,
+            t.copy / 1e6,
+            ours / t.copy
+        );
+    }
+}
+
 fn main() {
     for format in [Format::Xcoff32, Format::Xcoff64] {
         build(format);
         moved(format);
     }
+    records();
 }

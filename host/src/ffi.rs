@@ -131,6 +131,13 @@ pub struct Call {
     pub toc: u64,
 }
 
+#[repr(C)]
+pub struct Length {
+    pub number: u64,
+    pub item: u64,
+    pub length: u64,
+}
+
 extern "C" {
     fn xcoff_open(file: *const u8, length: usize) -> Open;
     fn xcoff_section(file: *const u8, length: usize, n: u64) -> Section;
@@ -193,6 +200,42 @@ extern "C" {
         data: *mut u8,
         data_length: usize,
     );
+    fn xcoff_records_length(
+        file: *const u8,
+        length: usize,
+        text_address: u64,
+        data_address: u64,
+        list: *const u64,
+        places: usize,
+    ) -> Length;
+    fn xcoff_write_records(
+        file: *const u8,
+        length: usize,
+        text_address: u64,
+        data_address: u64,
+        list: *const u64,
+        places: usize,
+        text: *const u8,
+        text_length: usize,
+        data: *const u8,
+        data_length: usize,
+        records: *mut u8,
+        records_length: usize,
+    ) -> Cause;
+    fn xcoff_read_records(
+        file: *const u8,
+        length: usize,
+        text_address: u64,
+        data_address: u64,
+        list: *const u64,
+        places: usize,
+        records: *const u8,
+        records_length: usize,
+        text: *mut u8,
+        text_length: usize,
+        data: *mut u8,
+        data_length: usize,
+    ) -> Cause;
     fn xcoff_symbol_table(file: *const u8, length: usize, rows: *mut u64, numbers: usize) -> Walk;
     fn xcoff_loader_symbol_table(
         file: *const u8,
@@ -335,6 +378,71 @@ pub fn replay(file: &[u8], script: &[u64], text: &mut [u8], data: &mut [u8]) {
             file.len(),
             script.as_ptr(),
             script.len(),
+            text.as_mut_ptr(),
+            text.len(),
+            data.as_mut_ptr(),
+            data.len(),
+        )
+    }
+}
+
+pub fn records_length(file: &[u8], at: (u64, u64), list: &[u64]) -> Length {
+    unsafe {
+        xcoff_records_length(
+            file.as_ptr(),
+            file.len(),
+            at.0,
+            at.1,
+            list.as_ptr(),
+            list.len(),
+        )
+    }
+}
+
+pub fn write_records(
+    file: &[u8],
+    at: (u64, u64),
+    list: &[u64],
+    text: &[u8],
+    data: &[u8],
+    records: &mut [u8],
+) -> Cause {
+    unsafe {
+        xcoff_write_records(
+            file.as_ptr(),
+            file.len(),
+            at.0,
+            at.1,
+            list.as_ptr(),
+            list.len(),
+            text.as_ptr(),
+            text.len(),
+            data.as_ptr(),
+            data.len(),
+            records.as_mut_ptr(),
+            records.len(),
+        )
+    }
+}
+
+pub fn read_records(
+    file: &[u8],
+    at: (u64, u64),
+    list: &[u64],
+    records: &[u8],
+    text: &mut [u8],
+    data: &mut [u8],
+) -> Cause {
+    unsafe {
+        xcoff_read_records(
+            file.as_ptr(),
+            file.len(),
+            at.0,
+            at.1,
+            list.as_ptr(),
+            list.len(),
+            records.as_ptr(),
+            records.len(),
             text.as_mut_ptr(),
             text.len(),
             data.as_mut_ptr(),

@@ -7,6 +7,7 @@
 #[allow(unsafe_code)]
 mod ffi;
 mod image;
+mod records;
 mod refusal;
 mod tables;
 
@@ -14,6 +15,7 @@ pub use image::{
     build_images, move_images, read_sheet, read_sheet_into, replay, write_sheet, write_sheet_into,
     Call, Plan, Reached,
 };
+pub use records::{read_records, records_length, write_records, write_records_into};
 pub use refusal::Refusal;
 pub use tables::{
     import_table, loader_symbol_table, relocation_table, symbol_table, Image, ImportId,

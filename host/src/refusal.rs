@@ -34,6 +34,9 @@ impl Refusal {
             19 => "PLAN",
             20 => "ROOM",
             21 => "SHEET",
+            22 => "RECORD",
+            23 => "FORM",
+            24 => "CLASH",
             _ => "UNKNOWN",
         }
     }
@@ -64,6 +67,9 @@ impl Refusal {
             19 => plan(i),
             20 => format!("the {} is not exactly as long as needed", room(i)),
             21 => "not a plan sheet: it is short, does not start with 0002, or is not as long as its count says".into(),
+            22 => format!("line {i} of the record text is not the line that is written there, or is missing or one too many"),
+            23 => "S-records are for XCOFF32 modules only".into(),
+            24 => "the text and data images share an address".into(),
             _ => "no such number".into(),
         }
     }
@@ -125,7 +131,7 @@ fn plan(item: u64) -> String {
 
 fn room(item: u64) -> &'static str {
     match item {
-        0 => "text image or sheet",
+        0 => "text image, sheet or record text",
         1 => "data image",
         _ => "list of addresses",
     }

@@ -15,12 +15,13 @@ use std::process::Command;
 const M: &str = "exe-imports-32";
 const NOBODY: u32 = 65534;
 
-/// A module, the sheet of its recorded plan and its images.
+/// A module, the sheet of its recorded plan, its images and their records.
 fn bench() -> Folder {
     let folder = Folder::new();
     folder.copy(M);
     folder.done(&["plan", M, "-o", "sheet"]);
     folder.done(&["build", M, "sheet", "-o", "text", "data"]);
+    folder.done(&["records", M, "sheet", "-o", "srec"]);
     folder
 }
 
@@ -42,6 +43,8 @@ fn help_is_there_for_the_tool_and_each_command() {
         "build",
         "move",
         "check",
+        "records",
+        "images",
     ];
     for command in commands {
         assert!(help.contains(&format!("\n  {command} ")), "{command}");
@@ -86,7 +89,7 @@ fn a_command_line_that_makes_no_sense_is_2() {
     }
 }
 
-const NO_SENSE: [(&str, &str); 14] = [
+const NO_SENSE: [(&str, &str); 27] = [
     ("headers", "FILE is missing"),
     ("headers a b", "b is one argument too many"),
     ("headers a --fast", "unknown option --fast"),
@@ -100,6 +103,25 @@ const NO_SENSE: [(&str, &str); 14] = [
     ("plan m", "-o SHEET is missing"),
     ("move m a b t", "DATA is missing"),
     ("check m a t d --or", "--or needs SHEET"),
+    ("check m", "SHEET is missing"),
+    ("check m a", "TEXT is missing"),
+    ("check m a t", "DATA is missing"),
+    ("check m a t d e", "e is one argument too many"),
+    ("check m a --records", "--records needs RECORDS"),
+    ("check m a t --records r", "t is one argument too many"),
+    ("records m s", "-o RECORDS is missing"),
+    ("records m s r -o r", "r is one argument too many"),
+    ("records m s --images t -o r", "--images needs TEXT DATA"),
+    (
+        "records m s --unchecked -o r",
+        "--unchecked goes with --images TEXT DATA",
+    ),
+    ("images m s -o t d", "RECORDS is missing"),
+    ("images m s r", "-o TEXT DATA is missing"),
+    (
+        "images m s r --records r -o t d",
+        "unknown option --records",
+    ),
     ("sheet a b c", "c is one argument too many"),
 ];
 
@@ -198,7 +220,7 @@ fn an_ambiguous_import_is_chosen_by_its_index() {
     assert_eq!(folder.read("s")[20 + 8 * 8 + 7], 1);
 }
 
-const TWICE: [(&str, &str); 8] = [
+const TWICE: [(&str, &str); 13] = [
     ("plan M -o M", "FILE and SHEET are the same file, M"),
     (
         "build M sheet -o new ./new",
@@ -228,6 +250,26 @@ const TWICE: [(&str, &str); 8] = [
         "move M sheet sheet text data -o new text",
         "TEXT and DATA2 are the same file, text",
     ),
+    (
+        "records M sheet -o sheet",
+        "SHEET and RECORDS are the same file, sheet",
+    ),
+    (
+        "records M sheet --images text data -o link",
+        "TEXT and RECORDS are the same file, link",
+    ),
+    (
+        "records M sheet --images text data -o ./data",
+        "DATA and RECORDS are the same file, ./data",
+    ),
+    (
+        "images M sheet srec -o new srec",
+        "RECORDS and DATA are the same file, srec",
+    ),
+    (
+        "images M sheet srec -o new ./new",
+        "TEXT and DATA are the same file, ./new",
+    ),
 ];
 
 #[test]
@@ -236,7 +278,7 @@ fn no_file_is_given_twice() {
     folder.write("M", &folder.read(M));
     symlink("text", folder.path("link")).unwrap();
     fs::create_dir(folder.path("sub")).unwrap();
-    let contents = || ["M", "sheet", "text", "data"].map(|name| folder.read(name));
+    let contents = || ["M", "sheet", "text", "data", "srec"].map(|name| folder.read(name));
     let before = (contents(), folder.names());
     for (words, text) in TWICE {
         let words: Vec<&str> = words.split(' ').collect();
@@ -272,6 +314,16 @@ fn a_refused_file_is_named_with_its_number() {
     );
     folder.fails(
         &["check", "gas-main-32.o", "sheet", "text", "data"],
+        1,
+        not_module,
+    );
+    folder.fails(
+        &["records", "gas-main-32.o", "sheet", "-o", "s"],
+        1,
+        not_module,
+    );
+    folder.fails(
+        &["images", "gas-main-32.o", "sheet", "srec", "-o", "t", "d"],
         1,
         not_module,
     );
@@ -312,7 +364,7 @@ fn a_file_over_the_limit_is_judged_by_the_library() {
         &["check", M, "sheet", "/dev/zero", "data"],
         1,
         "xcoff: /dev/zero (more than 16777216 bytes, where the text image of exe-imports-32 has 160): \
-         refused 20 0: ROOM, the text image or sheet is not exactly as long as needed\n",
+         refused 20 0: ROOM, the text image, sheet or record text is not exactly as long as needed\n",
     );
 }
 
@@ -368,7 +420,7 @@ fn images_of_the_wrong_length_are_refused() {
     let data = "xcoff: longer (161 bytes, where the data image of exe-imports-32 has 160): refused 20 1: ROOM, \
                 the data image is not exactly as long as needed\n";
     let text = "xcoff: none (0 bytes, where the text image of exe-imports-32 has 160): refused 20 0: ROOM, \
-                the text image or sheet is not exactly as long as needed\n";
+                the text image, sheet or record text is not exactly as long as needed\n";
     for unchecked in [&[][..], &["--unchecked"]] {
         let moved = ["move", M, "sheet", "sheet"];
         folder.fails(
@@ -411,6 +463,11 @@ fn a_file_that_cannot_be_read_is_named() {
         folder.fails(&["build", M, bad, "-o", "t", "d"], 3, text);
         folder.fails(&["move", M, "sheet", bad, "text", "data"], 3, text);
         folder.fails(&["check", M, "sheet", "text", bad], 3, text);
+        folder.fails(&["check", M, "sheet", "--records", bad], 3, text);
+        folder.fails(&["records", M, bad, "-o", "r"], 3, text);
+        let images = ["records", M, "sheet", "-o", "r", "--images", "text", bad];
+        folder.fails(&images, 3, text);
+        folder.fails(&["images", M, "sheet", bad, "-o", "t", "d"], 3, text);
     }
     folder.fails(
         &["headers", "text/file"],
@@ -438,8 +495,12 @@ fn am_root(folder: &Folder) -> bool {
 fn as_nobody(folder: &Folder, args: &[&str]) -> Ran {
     let mut command = folder.command(args);
     if am_root(folder) {
-        fs::copy(env!("CARGO_BIN_EXE_xcoff"), folder.path("program")).unwrap();
-        command = Command::new(folder.path("program"));
+        let program = folder.path("program");
+        // Not by this process: a child of another test could hold the copy open for writing, and it could not be run.
+        let mut copy = Command::new("cp");
+        copy.arg(env!("CARGO_BIN_EXE_xcoff")).arg(&program);
+        assert!(copy.status().unwrap().success());
+        command = Command::new(program);
         command
             .current_dir(folder.path(""))
             .args(args)
@@ -539,6 +600,16 @@ fn a_full_disk_under_the_line_that_tells_of_new_files_is_3() {
             "move M sheet sheet text data -o new d",
             "moved new (160 bytes) and d ",
         ),
+        (
+            "records",
+            "records M sheet -o new",
+            "wrote new (805 bytes, 11 lines): text ",
+        ),
+        (
+            "images",
+            "images M sheet srec -o new d",
+            "wrote new (160 bytes) and d ",
+        ),
     ];
     for (command, words, start) in runs {
         let words = words.replace('M', M);
@@ -614,6 +685,8 @@ fn a_failed_write_leaves_the_old_files() {
         ];
         folder.fails(&moved, 3, &text);
         folder.fails(&["plan", M, "-o", bad], 3, &text);
+        folder.fails(&["records", M, "sheet", "-o", bad], 3, &text);
+        folder.fails(&["images", M, "sheet", "srec", "-o", "old", bad], 3, &text);
     }
     let long = "n".repeat(256);
     let text = format!("xcoff: cannot write {long}: File name too long\n");
@@ -627,16 +700,17 @@ fn a_failed_write_leaves_the_old_files() {
 fn a_full_disk_leaves_the_old_files() {
     let folder = bench();
     folder.write("old", b"old");
-    let before = (
-        folder.read("text"),
-        folder.read("data"),
-        folder.read("sheet"),
-        folder.names(),
-    );
+    let contents = || {
+        let files = ["text", "data", "sheet", "srec", "old"].map(|name| folder.read(name));
+        (files, folder.names())
+    };
+    let before = contents();
     let runs = [
         (&["build", M, "sheet", "-o", "old", "data"][..], "old"),
         (&["move", M, "sheet", "sheet", "text", "data"], "text"),
         (&["plan", M, "--text", "0", "-o", "sheet"], "sheet"),
+        (&["records", M, "sheet", "-o", "old"], "old"),
+        (&["images", M, "sheet", "srec", "-o", "text", "old"], "text"),
     ];
     for (args, named) in runs {
         let ran = without_room(&folder, args);
@@ -646,14 +720,7 @@ fn a_full_disk_leaves_the_old_files() {
             (Some(3), text.as_str(), "")
         );
     }
-    let after = (
-        folder.read("text"),
-        folder.read("data"),
-        folder.read("sheet"),
-        folder.names(),
-    );
-    assert_eq!(before, after);
-    assert_eq!(folder.read("old"), b"old");
+    assert_eq!(before, contents());
 }
 
 /// The second renaming fails: in a folder with the sticky bit no one replaces the file of another. Only root can set

@@ -48,6 +48,31 @@ fn hexed(bytes: &[u8]) -> String {
     or_dash(text)
 }
 
+/// A record text: its characters, | for a newline, and \\XX for one by its hex digits.
+fn record_bytes(text: &str) -> Vec<u8> {
+    let mut all = Vec::new();
+    let mut rest = if text == "-" { "" } else { text };
+    while let Some(first) = rest.chars().next() {
+        let length = if first == '\\' { 3 } else { 1 };
+        all.push(match first {
+            '|' => b'\n',
+            '\\' => u8::from_str_radix(&rest[1..3], 16).expect("hex digits"),
+            other => u8::try_from(other).expect("a plain character"),
+        });
+        rest = &rest[length..];
+    }
+    all
+}
+
+fn record_text(bytes: &[u8]) -> String {
+    let character = |&byte: &u8| match byte {
+        b'\n' => "|".into(),
+        b if b.is_ascii_alphanumeric() => (b as char).to_string(),
+        other => format!("\\{other:02x}"),
+    };
+    or_dash(bytes.iter().map(character).collect())
+}
+
 fn or_dash(text: String) -> String {
     if text.is_empty() {
         "-".into()
@@ -276,7 +301,6 @@ fn calls(file: &[u8], words: &mut Words) -> String {
             Call::Build(p) => xcoff::build_images(file, p, &mut text, &mut data),
             Call::Move(p, q) => xcoff::move_images(file, p, q, &mut text, &mut data),
         };
-        let shown = |old: &[u8], new: &[u8]| if old == new { ".".into() } else { hexed(new) };
         let answer = given(answer.map(reached));
         parts.push(format!(
             "{answer} / {} {}",
@@ -292,6 +316,15 @@ fn calls(file: &[u8], words: &mut Words) -> String {
         "a replay leaves something else"
     );
     parts.join(" ; ")
+}
+
+/// A dot for a buffer that is as before.
+fn shown(old: &[u8], new: &[u8]) -> String {
+    if old == new {
+        ".".into()
+    } else {
+        hexed(new)
+    }
 }
 
 fn reached(r: Reached) -> String {
@@ -314,6 +347,33 @@ fn sheet_write(words: &mut Words) -> String {
     format!("{} / {}", given(answer), hexed(&sheet))
 }
 
+fn srecord_write(file: &[u8], words: &mut Words) -> String {
+    let (p, text, data) = (plan(words), bytes(next(words)), bytes(next(words)));
+    let before = bytes(next(words));
+    let mut records = before.clone();
+    let answer = xcoff::write_records_into(file, &p, &text, &data, &mut records);
+    if answer.is_ok() {
+        let length = xcoff::records_length(file, &p).expect("what is written has a length");
+        assert_eq!(length, records.len() as u64);
+    }
+    let after = if records == before {
+        ".".into()
+    } else {
+        record_text(&records)
+    };
+    format!("{} / {after}", given(answer.map(|()| "written".into())))
+}
+
+fn srecord_read(file: &[u8], words: &mut Words) -> String {
+    let (p, text, data) = (plan(words), bytes(next(words)), bytes(next(words)));
+    let records = record_bytes(next(words));
+    let (mut new_text, mut new_data) = (text.clone(), data.clone());
+    let answer = xcoff::read_records(file, &p, &records, &mut new_text, &mut new_data);
+    let answer = given(answer.map(|()| "read".into()));
+    let (text, data) = (shown(&text, &new_text), shown(&data, &new_data));
+    format!("{answer} / {text} {data}")
+}
+
 // ---- the cases
 
 fn answer(file: &[u8], asked: &str) -> String {
@@ -333,15 +393,18 @@ fn answer(file: &[u8], asked: &str) -> String {
         "calls" => calls(file, &mut words),
         "sheet_read" => sheet_read(&mut words),
         "sheet_write" => sheet_write(&mut words),
+        "srecord_write" => srecord_write(file, &mut words),
+        "srecord_read" => srecord_read(file, &mut words),
         _ => panic!("no such operation: {op}"),
     }
 }
 
-#[test]
-fn every_recorded_case_is_answered_as_recorded() {
-    let path = PathBuf::from(env!("CARGO_MANIFEST_DIR")).join("../tests/vectors/cases.txt");
+/// Runs the cases of a text; gives how many there are of each operation.
+fn check(name: &str) -> BTreeMap<String, u64> {
+    let path = PathBuf::from(env!("CARGO_MANIFEST_DIR")).join("../tests/vectors");
+    let path = path.join(name);
     let text = std::fs::read_to_string(&path).unwrap_or_else(|e| panic!("{}: {e}", path.display()));
-    let mut counts: BTreeMap<&str, u64> = BTreeMap::new();
+    let mut counts: BTreeMap<String, u64> = BTreeMap::new();
     let mut differences = Vec::new();
     let mut file = Vec::new();
     for (n, line) in text.lines().enumerate() {
@@ -357,17 +420,33 @@ fn every_recorded_case_is_answered_as_recorded() {
                 n + 1
             ));
         }
-        *counts
-            .entry(asked.split(' ').next().expect("an operation"))
-            .or_default() += 1;
+        let op = asked.split(' ').next().expect("an operation");
+        *counts.entry(op.into()).or_default() += 1;
     }
-    println!("{counts:?}");
-    assert_eq!(counts.values().sum::<u64>(), 3_000);
-    assert_eq!(counts.len(), 12, "{counts:?}");
+    println!("{name}: {counts:?}");
     assert!(
         differences.is_empty(),
-        "{} differences:\n{}",
+        "{name}: {} differences:\n{}",
         differences.len(),
         differences.join("\n")
+    );
+    counts
+}
+
+#[test]
+fn every_recorded_case_is_answered_as_recorded() {
+    let counts = check("cases.txt");
+    assert_eq!(counts.values().sum::<u64>(), 3_000);
+    assert_eq!(counts.len(), 12, "{counts:?}");
+}
+
+#[test]
+fn every_recorded_case_of_request_2_is_answered_as_recorded() {
+    let counts = check("cases-02.txt");
+    assert_eq!(counts.values().sum::<u64>(), 600);
+    assert_eq!(counts.len(), 14, "{counts:?}");
+    assert_eq!(
+        (counts["srecord_write"], counts["srecord_read"]),
+        (142, 162)
     );
 }

@@ -115,6 +115,72 @@ static void images(void)
     EXPECT(refused(s.number, s.item, 20, 2));
 }
 
+static uint8_t image_text[0xa0], image_data[0xa0], written[805];
+static uint64_t plan_list[9];
+
+static xcoff_verdict write_at(uint64_t data_address, size_t records_length)
+{
+    return xcoff_write_records(file, length, 0x10000, data_address, plan_list, 9, image_text, sizeof image_text, image_data,
+                               sizeof image_data, written, records_length);
+}
+
+static xcoff_verdict read_from(const uint8_t *lines, size_t n, uint8_t *text, uint8_t *data)
+{
+    return xcoff_read_records(file, length, 0x10000, 0x80000, plan_list, 9, lines, n, text, 0xa0, data, 0xa0);
+}
+
+static int all_are(const uint8_t *bytes, size_t n, uint8_t b)
+{
+    while (n > 0 && bytes[n - 1] == b)
+        n--;
+    return n == 0;
+}
+
+/* Written: ten lines of 32 data bytes, and the line with the entry address. */
+static void records_written(void)
+{
+    xcoff_length_answer n;
+    xcoff_verdict v;
+    size_t i;
+    for (i = 0; i < 9; i++)
+        plan_list[i] = xcoff_loader_symbol(file, length, 3 + i).value;
+    xcoff_build(file, length, 0x10000, 0x80000, plan_list, 9, image_text, 0xa0, image_data, 0xa0);
+    n = xcoff_records_length(file, length, 0x10000, 0x80000, plan_list, 9);
+    EXPECT(n.number == 0 && n.item == 0 && n.length == sizeof written);
+    v = write_at(0x80000, sizeof written - 1);
+    EXPECT(refused(v.number, v.item, 20, 0) && all_are(written, sizeof written, 0));
+    v = write_at(0x1009f, sizeof written);
+    EXPECT(refused(v.number, v.item, 24, 0) && all_are(written, sizeof written, 0));
+    n = xcoff_records_length(file, length, 0x10000, 0x1009f, plan_list, 9);
+    EXPECT(refused(n.number, n.item, 24, 0) && n.length == 0);
+    v = write_at(0x80000, sizeof written);
+    EXPECT(v.number == 0 && v.item == 0);
+    EXPECT(memcmp(written, "S325000100007C0802A64800002D8041001448000049", 44) == 0);
+    EXPECT(memcmp(written + 5 * 79, "S32500080000", 12) == 0 && memcmp(written + 790, "S70500080030C2\n", 15) == 0);
+}
+
+/* Read back into the images; refused with the line, and then nothing is written. */
+static void records_read(void)
+{
+    static uint8_t text[0xa0], data[0xa0], longer[806];
+    xcoff_verdict v = read_from(written, sizeof written, text, data);
+    EXPECT(v.number == 0 && v.item == 0);
+    EXPECT(memcmp(text, image_text, sizeof text) == 0 && memcmp(data, image_data, sizeof data) == 0);
+    memset(text, 1, sizeof text);
+    memset(data, 1, sizeof data);
+    memcpy(longer, written, sizeof written);
+    v = read_from(longer, sizeof longer, text, data);
+    EXPECT(refused(v.number, v.item, 22, 12));
+    v = read_from(longer, sizeof written - 1, text, data);
+    EXPECT(refused(v.number, v.item, 22, 11));
+    longer[6 * 79 + 20] ^= 1;
+    v = read_from(longer, sizeof written, text, data);
+    EXPECT(refused(v.number, v.item, 22, 7));
+    v = read_from(NULL, 0, text, data);
+    EXPECT(refused(v.number, v.item, 22, 1));
+    EXPECT(all_are(text, sizeof text, 1) && all_are(data, sizeof data, 1));
+}
+
 /* Every row against the calls for one element. */
 static void symbol_rows(void)
 {
@@ -189,6 +255,9 @@ static void nothing(void)
     EXPECT(refused(n.number, n.item, 1, 0) && n.length == 0);
     EXPECT(xcoff_symbol_table(NULL, 0, NULL, 0).number == 1);
     EXPECT(xcoff_relocation_table(NULL, 0, NULL, 0).number == 1);
+    EXPECT(xcoff_records_length(NULL, 0, 0, 0, NULL, 0).number == 1);
+    EXPECT(xcoff_write_records(NULL, 0, 0, 0, NULL, 0, NULL, 0, NULL, 0, NULL, 0).number == 1);
+    EXPECT(xcoff_read_records(NULL, 0, 0, 0, NULL, 0, NULL, 0, NULL, 0, NULL, 0).number == 1);
 }
 
 int main(int argc, char **argv)
@@ -204,6 +273,8 @@ int main(int argc, char **argv)
     symbols();
     module();
     images();
+    records_written();
+    records_read();
     symbol_rows();
     module_rows();
     nothing();

@@ -1,10 +1,10 @@
 #!/usr/bin/env python3
-"""Makes cases.txt of this folder from recorded cases.
+"""Makes the texts of this folder from recorded cases: cases.txt from base.jsonl, cases-NN.txt from NN.jsonl.
 
-usage: make.py CASES.jsonl[.xz]
+usage: make.py CASES.jsonl[.xz]...
 
 A line of CASES.jsonl is a JSON object: an operation with its arguments, the file and the answer that an independent
-reading of the rules gives. Of the answer only what the library gives is kept. README.md says what cases.txt looks like.
+reading of the rules gives. Of the answer only what the library gives is kept. README.md says what the texts look like.
 """
 import json
 import lzma
@@ -28,6 +28,13 @@ def piece(found):
 
 def bytes_of(text):
     return hexed(bytes.fromhex(text))
+
+
+def record_text(text):
+    """A record text as it is, a newline as |, what is neither letter nor digit as its hex digits after a backslash."""
+    def character(found):
+        return "|" if found.group(0) == "\n" else "\\%02x" % ord(found.group(0))
+    return re.sub("[^0-9A-Za-z]", character, bytes.fromhex(text).decode("latin-1")) or "-"
 
 
 def numbers(values):
@@ -140,6 +147,19 @@ def sheet_case(case):
         plan(case["plan"]), bytes_of(case["buffers"]["sheet"]), refused(answer) or "written", bytes_of(after))
 
 
+def record_case(case):
+    """Records that are written or read: the buffers before and after, a dot where one is as before."""
+    lent, after = case["buffers"], case["expect"]["buffers"]
+    answer = refused(case["expect"]["answer"])
+    asked = "%s %s %s %s" % (case["op"], plan(case["plan"]), bytes_of(lent["text"]), bytes_of(lent["data"]))
+    if case["op"] == "srecord_read":
+        both = [(b["text"], b["data"]) for b in (lent, after)]
+        return "%s %s = %s / %s" % (asked, record_text(case["records"]), answer or "read", images(*both))
+    assert (after["text"], after["data"]) == (lent["text"], lent["data"])
+    written = "." if after["records"] == lent["records"] else record_text(after["records"])
+    return "%s %s = %s / %s" % (asked, bytes_of(lent["records"]), answer or "written", written)
+
+
 READ = {
     "open": opened, "section": section, "symbol": symbol, "walk": walk, "module": module, "loader_symbol": loader_symbol,
     "csect": lambda c: words(c, "length", "align_log", "type", "smclas"),
@@ -153,26 +173,31 @@ def line(case):
         return image_case(case)
     if case["op"].startswith("sheet"):
         return sheet_case(case)
+    if case["op"].startswith("srecord"):
+        return record_case(case)
     answer = case["expect"]["answer"]
     asked = "%s %x" % (case["op"], case["index"]) if "index" in case else case["op"]
     return "%s = %s" % (asked, refused(answer) or READ[case["op"]](answer))
 
 
-def main():
-    opener = lzma.open if sys.argv[1].endswith(".xz") else open
-    with opener(sys.argv[1], "rt") as f:
+def make(path):
+    opener = lzma.open if path.endswith(".xz") else open
+    with opener(path, "rt") as f:
         cases = [json.loads(text) for text in f]
+    name = os.path.basename(path).split(".")[0]
+    name = "cases.txt" if name == "base" else "cases-%s.txt" % name
     # Cases of one file stand together, so that it is there once.
     by_file = {}
     for case in cases:
         data = bytes.fromhex(case.get("file", ""))
         by_file.setdefault(hexed(data.ljust(case.get("pad_to", 0), b"\0")), []).append(line(case))
-    with open(os.path.join(HERE, "cases.txt"), "w") as f:
+    with open(os.path.join(HERE, name), "w") as f:
         for data, lines in by_file.items():
             f.write("file %s\n" % data)
             f.write("".join(text + "\n" for text in lines))
-    print(len(cases), "cases,", len(by_file), "files")
+    print("%s: %d cases, %d files" % (name, len(cases), len(by_file)))
 
 
 if __name__ == "__main__":
-    main()
+    for path in sys.argv[1:]:
+        make(path)

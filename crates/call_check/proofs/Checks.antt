@@ -33,7 +33,7 @@ pub accepted-here : {z v a : Verdict} {s : Bool} (b : Verdict) → v ≡ a → s
 accepted-here {a = a} b e h k r = r ∙ sym (go-on a b (told e h k))
 
 -- an order of three checks can be read from either end
-or-assoc : (a b c : Verdict) → ((a orElse b) orElse c) ≡ (a orElse b orElse c)
+pub or-assoc : (a b c : Verdict) → ((a orElse b) orElse c) ≡ (a orElse b orElse c)
 or-assoc Accepted b c = refl
 or-assoc (Refused x) b c = refl
 

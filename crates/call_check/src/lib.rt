@@ -17,7 +17,7 @@ use refusal::Verdict;
 // ---- which calls are accepted
 
 // ROOM 0 and 1: buffers of exactly the images' lengths.
-fn check_room(file: &[u8], l: Loadable, text: usize, data: usize) -> Verdict
+pub fn check_room(file: &[u8], l: Loadable, text: usize, data: usize) -> Verdict
     requires { ⌜ Valid (now file) l ⌝ }
     ensures { λ r. ⌜ r ≡ roomCheck (relocatableOf (now (file .entry)) l) text «data» ⌝ }
 {

@@ -4,7 +4,7 @@ ghost use Prim.Native.Nat.{_+_, _-_, _%_};
 ghost use lib.IntN.{pos, _-ℤ_};
 ghost use Rattle.format.specs.Layout.{addressLimit};
 ghost use Rattle.apply.specs.Shift.{Displaced};
-ghost use Rattle.displacement.specs.Reach.{IsMoved, IsReached};
+ghost use Rattle.displacement.specs.Reach.{present, addressOf, IsMoved, IsReached};
 use format::Format;
 use format::VirtualAddress;
 use history::AnchorAddress;
@@ -88,5 +88,25 @@ pub fn reach(l: Loadable, at: Addresses) -> Reached
     Reached {
         entry: move_anchor(l, entry, at),
         toc: move_anchor(l, toc, at),
+    }
+}
+
+// 1 where there is such an address, else 0.
+pub fn is_present(a: AnchorAddress) -> u64
+    ensures { λ r. ⌜ r ≡ present a ⌝ }
+{
+    match a {
+        AnchorAddress::Nowhere => 0,
+        AnchorAddress::At(_) => 1,
+    }
+}
+
+// The address, or 0 where there is none.
+pub fn address_of(a: AnchorAddress) -> u64
+    ensures { λ r. ⌜ r ≡ addressOf a ⌝ }
+{
+    match a {
+        AnchorAddress::Nowhere => 0,
+        AnchorAddress::At(v) => v.0,
     }
 }

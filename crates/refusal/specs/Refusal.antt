@@ -18,9 +18,9 @@ use Rattle.refusal.specs.declared.LoaderItem.the-variants.{ShortHeader, 
 use Rattle.refusal.specs.declared.PlanItem.{PlanItem}
 use Rattle.refusal.specs.declared.PlanItem.the-variants.{TextAddress, DataAddress, ImportAddress}
 use Rattle.refusal.specs.declared.RoomItem.{RoomItem}
-use Rattle.refusal.specs.declared.RoomItem.the-variants.{TextBuffer, SheetBuffer, RowBuffer, DataBuffer, AddressList}
+use Rattle.refusal.specs.declared.RoomItem.the-variants.{TextBuffer, SheetBuffer, RowBuffer, RecordBuffer, DataBuffer, AddressList}
 use Rattle.refusal.specs.declared.Refusal.{Refusal}
-use Rattle.refusal.specs.declared.Refusal.the-variants.{Short, Magic, Limit, Kind, Bounds, Address, Strings, Index, Aux, Name, Scnum, Csect, Module, Thread, Loader, Lsym, Lrel, Overlap, Plan, Room, Sheet}
+use Rattle.refusal.specs.declared.Refusal.the-variants.{Short, Magic, Limit, Kind, Bounds, Address, Strings, Index, Aux, Name, Scnum, Csect, Module, Thread, Loader, Lsym, Lrel, Overlap, Plan, Room, Sheet, Record, Form, Clash}
 use Rattle.refusal.specs.declared.Verdict.{Verdict}
 use Rattle.refusal.specs.declared.Verdict.the-variants.{Accepted, Refused}
 
@@ -47,6 +47,9 @@ numberOf (Overlap i) = 18
 numberOf (Plan i) = 19
 numberOf (Room i) = 20
 numberOf Sheet = 21
+numberOf (Record i) = 22
+numberOf Form = 23
+numberOf Clash = 24
 
 -- the items of the numbers that name several things
 abbrev pub limitItem : LimitItem → ℕ
@@ -100,6 +103,7 @@ abbrev pub roomItem : RoomItem → ℕ
 roomItem TextBuffer = 0
 roomItem SheetBuffer = 0
 roomItem RowBuffer = 0
+roomItem RecordBuffer = 0
 roomItem DataBuffer = 1
 roomItem AddressList = 2
 
@@ -126,6 +130,9 @@ itemOf (Overlap i) = i
 itemOf (Plan i) = planItem i
 itemOf (Room i) = roomItem i
 itemOf Sheet = 0
+itemOf (Record i) = i
+itemOf Form = 0
+itemOf Clash = 0
 
 -- the number and the item of a verdict: 0 and 0 where it accepts
 abbrev pub reportNumber : Verdict → ℕ

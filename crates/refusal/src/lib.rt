@@ -76,11 +76,13 @@ pub enum RoomItem {
     SheetBuffer,
     // rows of a listed table: item 0, as for the other operation with one buffer
     RowBuffer,
+    // the record text, judged after both images
+    RecordBuffer,
     DataBuffer,
     AddressList,
 }
 
-// In the order of the numbers, 1 SHORT to 21 SHEET.
+// In the order of the numbers, 1 SHORT to 24 CLASH.
 pub enum Refusal {
     // the file or header area ends early
     Short,
@@ -114,6 +116,12 @@ pub enum Refusal {
     Room(RoomItem),
     // a malformed plan sheet
     Sheet,
+    // a line of the record text, from 1
+    Record(u64),
+    // an operation for XCOFF32 only
+    Form,
+    // text and data share an address
+    Clash,
 }
 
 // Whether something is taken.
@@ -222,6 +230,7 @@ fn room_item(x: RoomItem) -> u64
         RoomItem::TextBuffer => 0,
         RoomItem::SheetBuffer => 0,
         RoomItem::RowBuffer => 0,
+        RoomItem::RecordBuffer => 0,
         RoomItem::DataBuffer => 1,
         RoomItem::AddressList => 2,
     }
@@ -253,6 +262,9 @@ pub fn number(x: Refusal) -> u64
         Refusal::Plan(_) => 19,
         Refusal::Room(_) => 20,
         Refusal::Sheet => 21,
+        Refusal::Record(_) => 22,
+        Refusal::Form => 23,
+        Refusal::Clash => 24,
     }
 }
 
@@ -282,6 +294,9 @@ pub fn item(x: Refusal) -> u64
         Refusal::Plan(i) => plan_item(i),
         Refusal::Room(i) => room_item(i),
         Refusal::Sheet => 0,
+        Refusal::Record(i) => i,
+        Refusal::Form => 0,
+        Refusal::Clash => 0,
     }
 }
 

@@ -3,7 +3,7 @@ use mathlib.Core.Path.{_≡_, refl}
 use mathlib.Core.Bool.{false}
 use lib.Dec.{eqb}
 use Rattle.refusal.specs.declared.Refusal.{Refusal}
-use Rattle.refusal.specs.declared.Refusal.the-variants.{Short, Magic, Limit, Kind, Bounds, Address, Strings, Index, Aux, Name, Scnum, Csect, Module, Thread, Loader, Lsym, Lrel, Overlap, Plan, Room, Sheet}
+use Rattle.refusal.specs.declared.Refusal.the-variants.{Short, Magic, Limit, Kind, Bounds, Address, Strings, Index, Aux, Name, Scnum, Csect, Module, Thread, Loader, Lsym, Lrel, Overlap, Plan, Room, Sheet, Record, Form, Clash}
 use Rattle.refusal.specs.Refusal.{numberOf}
 
 -- no refusal has number 0
@@ -29,3 +29,6 @@ number-not-zero (Overlap i) = refl
 number-not-zero (Plan i) = refl
 number-not-zero (Room i) = refl
 number-not-zero Sheet = refl
+number-not-zero (Record i) = refl
+number-not-zero Form = refl
+number-not-zero Clash = refl

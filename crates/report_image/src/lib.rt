@@ -1,13 +1,14 @@
-// The answers of builds, moves and plan sheets as C reads them: document 01's number (0: accepted) and item, then the values.
+// The answers of builds, moves, plan sheets and S-records as C reads them: document 01's number (0: accepted) and item, then the values.
 ghost use mathlib.Core.Path.{_≡_};
 ghost use Rattle.refusal.specs.Refusal.{reportOfVerdict};
-ghost use Rattle.image.specs.Report.{present, addressOf, reportOfCall};
+ghost use Rattle.image.specs.Report.{reportOfCall};
 ghost use Rattle.sheet.specs.Sheet.{reportOfSheet};
-ghost use Rattle.report_image.specs.Report.{cCall, cSheet, cVerdict};
-use history::AnchorAddress;
+ghost use Rattle.srecord.specs.Records.{reportOfLength};
+ghost use Rattle.report_image.specs.Report.{cCall, cSheet, cLength, cVerdict};
 use history::CallAnswer;
 use refusal::Verdict;
 use sheet::SheetAnswer;
+use srecord::LengthAnswer;
 
 // The entry and TOC addresses in the plan that the call reached; `hasentry` and `hastoc` are 1 where there is one.
 #[repr(C)]
@@ -30,28 +31,18 @@ pub struct CSheet {
     pub count: u64,
 }
 
+// How many bytes a record text has.
+#[repr(C)]
+pub struct CLength {
+    pub number: u64,
+    pub item: u64,
+    pub length: u64,
+}
+
 #[repr(C)]
 pub struct CVerdict {
     pub number: u64,
     pub item: u64,
-}
-
-fn is_present(a: AnchorAddress) -> u64
-    ensures { λ r. ⌜ r ≡ present a ⌝ }
-{
-    match a {
-        AnchorAddress::Nowhere => 0,
-        AnchorAddress::At(_) => 1,
-    }
-}
-
-fn address_of(a: AnchorAddress) -> u64
-    ensures { λ r. ⌜ r ≡ addressOf a ⌝ }
-{
-    match a {
-        AnchorAddress::Nowhere => 0,
-        AnchorAddress::At(v) => v.0,
-    }
 }
 
 pub fn report_call(a: CallAnswer) -> CCall
@@ -64,10 +55,10 @@ pub fn report_call(a: CallAnswer) -> CCall
             CCall {
                 number: 0,
                 item: 0,
-                hasentry: is_present(entry),
-                entry: address_of(entry),
-                hastoc: is_present(toc),
-                toc: address_of(toc),
+                hasentry: displacement::is_present(entry),
+                entry: displacement::address_of(entry),
+                hastoc: displacement::is_present(toc),
+                toc: displacement::address_of(toc),
             }
         }
         CallAnswer::Refused(x) => CCall {
@@ -102,6 +93,23 @@ pub fn report_sheet(a: SheetAnswer) -> CSheet
             text: 0,
             data: 0,
             count: 0,
+        },
+    }
+}
+
+pub fn report_length(a: LengthAnswer) -> CLength
+    ensures { λ r. ⌜ r ≡ cLength (reportOfLength a) ⌝ }
+{
+    match a {
+        LengthAnswer::Found(n) => CLength {
+            number: 0,
+            item: 0,
+            length: n,
+        },
+        LengthAnswer::Refused(x) => CLength {
+            number: refusal::number(x),
+            item: refusal::item(x),
+            length: 0,
         },
     }
 }

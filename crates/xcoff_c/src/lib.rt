@@ -16,13 +16,14 @@ ghost use Rattle.history.specs.Call.{Call, build, answerOf, effect};
 ghost use Rattle.history.specs.Book.{bookImages, bookAfter};
 ghost use Rattle.plan.specs.Relocatable.{relocatableAt};
 ghost use Rattle.image.specs.Report.{reportOfCall};
+ghost use Rattle.srecord.specs.Records.{lengthAnswer, reportOfLength, recordWriteCheck, recordsWritten, recordReadCheck, textAfter, dataAfter};
 ghost use Rattle.replay.specs.Script.{callsOf};
 ghost use Rattle.symbol_table.specs.Table.{symbolTable, symbolsAfter};
 ghost use Rattle.module_table.specs.Table.{tableCheck, tableAfter};
 ghost use Rattle.loader_symbol_table.specs.Rows.{loaderSymbols};
 ghost use Rattle.relocation_table.specs.Rows.{relocations};
 ghost use Rattle.import_table.specs.Imports.{imports};
-ghost use Rattle.report_image.specs.Report.{cCall, cSheet, cVerdict};
+ghost use Rattle.report_image.specs.Report.{cCall, cSheet, cLength, cVerdict};
 ghost use Rattle.report.specs.Report.{cOpen, cSection, cRange, cSymbol, cWalk, cCsect, cModule, cLoaderSymbol};
 ghost use Rattle.refusal.specs.Refusal.{reportOfVerdict};
 use displacement::Addresses;
@@ -39,6 +40,7 @@ use report::CSection;
 use report::CSymbol;
 use report::CWalk;
 use report_image::CCall;
+use report_image::CLength;
 use report_image::CSheet;
 use report_image::CVerdict;
 
@@ -235,6 +237,61 @@ pub extern "C" fn xcoff_replay(file: &[u8], script: &[u64], text: &mut [u8], dat
     ensures { λ _. ⌜ images (now (text .exit)) (now («data» .exit)) ≡ bookImages (relocatableAt (now (file .entry))) (bookAfter (relocatableAt (now (file .entry))) (callsOf (now (script .entry))) (images (now (text .entry)) (now («data» .entry)))) ⌝ }
 {
     replay::replay(file, script, text, data)
+}
+
+// How long the record text of a module's images for a plan is.
+#[no_mangle]
+pub extern "C" fn xcoff_records_length(file: &[u8], at: u64, dataat: u64, list: &[u64]) -> CLength
+    ensures { λ r. ⌜ r ≡ cLength (reportOfLength (lengthAnswer (relocatableAt (now (file .entry))) (record { text = at; dat = dataat; list = now (list .entry) }))) ⌝ }
+{
+    let addresses = Addresses {
+        text: VirtualAddress(at),
+        data: VirtualAddress(dataat),
+    };
+    report_image::report_length(srecord::records_length(file, addresses, list))
+}
+
+// Writes two images, as they are, as S-records for a plan.
+#[no_mangle]
+pub extern "C" fn xcoff_write_records(
+    file: &[u8],
+    at: u64,
+    dataat: u64,
+    list: &[u64],
+    text: &[u8],
+    data: &[u8],
+    records: &mut [u8],
+) -> CVerdict
+    ensures answer { λ r. ⌜ r ≡ cVerdict (reportOfVerdict (recordWriteCheck (relocatableAt (now (file .entry))) (record { text = at; dat = dataat; list = now (list .entry) }) (length (now (text .entry))) (length (now («data» .entry))) (length (now (records .entry))))) ⌝ }
+    ensures records { λ _. ⌜ now (records .exit) ≡ recordsWritten (relocatableAt (now (file .entry))) (record { text = at; dat = dataat; list = now (list .entry) }) (now (text .entry)) (now («data» .entry)) (now (records .entry)) ⌝ }
+{
+    let addresses = Addresses {
+        text: VirtualAddress(at),
+        data: VirtualAddress(dataat),
+    };
+    report_image::report_verdict(srecord::write_records(file, addresses, list, text, data, records))
+}
+
+// Reads S-records for a plan into two image buffers.
+#[no_mangle]
+pub extern "C" fn xcoff_read_records(
+    file: &[u8],
+    at: u64,
+    dataat: u64,
+    list: &[u64],
+    records: &[u8],
+    text: &mut [u8],
+    data: &mut [u8],
+) -> CVerdict
+    ensures answer { λ r. ⌜ r ≡ cVerdict (reportOfVerdict (recordReadCheck (relocatableAt (now (file .entry))) (record { text = at; dat = dataat; list = now (list .entry) }) (length (now (text .entry))) (length (now («data» .entry))) (now (records .entry)))) ⌝ }
+    ensures text { λ _. ⌜ now (text .exit) ≡ textAfter (relocatableAt (now (file .entry))) (record { text = at; dat = dataat; list = now (list .entry) }) (now (records .entry)) (now (text .entry)) (now («data» .entry)) ⌝ }
+    ensures data { λ _. ⌜ now («data» .exit) ≡ dataAfter (relocatableAt (now (file .entry))) (record { text = at; dat = dataat; list = now (list .entry) }) (now (records .entry)) (now (text .entry)) (now («data» .entry)) ⌝ }
+{
+    let addresses = Addresses {
+        text: VirtualAddress(at),
+        data: VirtualAddress(dataat),
+    };
+    report_image::report_verdict(srecord::read_records(file, addresses, list, records, text, data))
 }
 
 // Lists the symbols that the walk visits: a row of 13 numbers for each.

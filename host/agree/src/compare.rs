@@ -1,6 +1,6 @@
 //! One operation, run by both implementations.
 
-use crate::{images, read};
+use crate::{images, read, records};
 use reference::generate::Op;
 use reference::Refusal;
 use std::fmt::Debug;
@@ -39,6 +39,19 @@ pub fn compare(file: &[u8], op: &Op) -> Agreement {
             list,
             sheet,
         } => images::write_sheet((*text, *data), list, sheet),
+        Op::RecordsLength(plan) => records::length(file, plan),
+        Op::WriteRecords {
+            plan,
+            text,
+            data,
+            records,
+        } => records::write(file, plan, (text, data), records),
+        Op::ReadRecords {
+            plan,
+            records,
+            text,
+            data,
+        } => records::read(file, plan, records, (text, data)),
         _ => read::read(file, op),
     }
 }

@@ -51,7 +51,7 @@ pub fn every(file: &[u8], rng: &mut Rng) -> Vec<Op> {
     ops
 }
 
-/// A build, a move, a list with refused calls, and the sheet of a plan.
+/// A build, a move, a list with refused calls, the sheet of a plan, and S-records of two.
 fn images(file: &[u8], rng: &mut Rng) -> Vec<Op> {
     let (sizes, [p, q, r]) = plans(file, rng);
     let (text, data) = (rng.bytes(sizes.0), rng.bytes(sizes.1));
@@ -83,10 +83,15 @@ fn images(file: &[u8], rng: &mut Rng) -> Vec<Op> {
         list(vec![
             Call::Build(p.clone()),
             Call::Move(p.clone(), q.clone()),
-            Call::Move(q, r),
+            Call::Move(q.clone(), r),
         ]),
     ];
     ops.extend(sheets(&p, rng));
+    ops.extend(
+        [&p, &q]
+            .into_iter()
+            .flat_map(|plan| records(file, plan, &text, &data)),
+    );
     ops
 }
 
@@ -124,6 +129,31 @@ fn sheets(plan: &Plan, rng: &mut Rng) -> [Op; 2] {
         Op::ReadSheet {
             sheet: written,
             list: vec![0; plan.list.len()],
+        },
+    ]
+}
+
+/// The images' length in records, written, read back, and with one byte too few.
+fn records(file: &[u8], plan: &Plan, text: &[u8], data: &[u8]) -> [Op; 4] {
+    let length = reference::records_length(file, plan).unwrap_or(15) as usize;
+    let room = vec![0x77; length];
+    let mut written = room.clone();
+    let _ = reference::write_records(file, plan, text, data, &mut written);
+    let read = |records: &[u8]| Op::ReadRecords {
+        plan: plan.clone(),
+        records: records.to_vec(),
+        text: vec![0x55; text.len()],
+        data: vec![0x55; data.len()],
+    };
+    [
+        Op::RecordsLength(plan.clone()),
+        read(&written),
+        read(&written[..length - 1]),
+        Op::WriteRecords {
+            plan: plan.clone(),
+            text: text.to_vec(),
+            data: data.to_vec(),
+            records: room,
         },
     ]
 }

@@ -8,7 +8,7 @@ use reference::{answer::run_call, Call, LoaderSymbol, Plan};
 /// Images of more bytes than this are compared after the last call only.
 const LARGE: usize = 200_000;
 
-fn plan(p: &Plan) -> xcoff::Plan {
+pub fn plan(p: &Plan) -> xcoff::Plan {
     xcoff::Plan {
         text: p.text,
         data: p.data,

@@ -8,6 +8,7 @@ mod images;
 mod lent;
 mod lister;
 mod read;
+mod records;
 mod run;
 mod tables;
 

@@ -5,5 +5,6 @@
 pub mod made;
 pub mod orders;
 pub mod plain;
+pub mod records;
 pub mod relocate;
 pub mod turns;

@@ -67,7 +67,7 @@ impl Build {
 }
 
 /// Gives the empty bss of a made module a size: in the auxiliary header and in the header of section 3.
-fn with_bss(file: &mut [u8], format: Format, size: u32) {
+pub fn with_bss(file: &mut [u8], format: Format, size: u32) {
     let places = match format {
         Format::Xcoff32 => [20 + 12, 20 + 72 + 2 * 40 + 16],
         Format::Xcoff64 => [24 + 72 + 4, 24 + 110 + 2 * 72 + 24 + 4],

@@ -86,6 +86,30 @@ pub fn arguments(op: &Op) -> String {
         } => {
             format!("{text:x},{data:x},{} {}", bracketed(list), hex(sheet))
         }
+        _ => record_arguments(op),
+    }
+}
+
+fn record_arguments(op: &Op) -> String {
+    match op {
+        Op::RecordsLength(plan) => plan_text(plan),
+        Op::WriteRecords {
+            plan,
+            text,
+            data,
+            records,
+        }
+        | Op::ReadRecords {
+            plan,
+            records,
+            text,
+            data,
+        } => format!(
+            "{} {} records={}",
+            plan_text(plan),
+            lent_text(text, data),
+            hex(records)
+        ),
         _ => String::new(),
     }
 }
@@ -236,6 +260,9 @@ pub fn run(file: &[u8], op: &Op) -> Answer {
         Op::Symbols => rows(walked(file), |entry| entry_text(file, entry)),
         Op::Build { .. } | Op::Move { .. } | Op::Calls { .. } => image_answer(file, op),
         Op::ReadSheet { .. } | Op::WriteSheet { .. } => sheet_answer(op),
+        Op::RecordsLength(_) | Op::WriteRecords { .. } | Op::ReadRecords { .. } => {
+            records_answer(file, op)
+        }
         Op::List => {
             let text = list_headers(file);
             Answer {
@@ -374,5 +401,41 @@ fn sheet_answer(op: &Op) -> Answer {
             )
         }
         _ => unreachable!("sheets only"),
+    }
+}
+
+fn records_answer(file: &[u8], op: &Op) -> Answer {
+    match op {
+        Op::RecordsLength(plan) => {
+            let length = records_length(file, plan);
+            answer(length.map(|length| format!("length {length}")), "")
+        }
+        Op::WriteRecords {
+            plan,
+            text,
+            data,
+            records,
+        } => {
+            let mut records = records.clone();
+            let result = write_records(file, plan, text, data, &mut records);
+            answer(
+                result.map(|()| "written".to_string()),
+                &format!(" | {}", hex(&records)),
+            )
+        }
+        Op::ReadRecords {
+            plan,
+            records,
+            text,
+            data,
+        } => {
+            let (mut text, mut data) = (text.clone(), data.clone());
+            let result = read_records(file, plan, records, &mut text, &mut data);
+            answer(
+                result.map(|()| "read".to_string()),
+                &images_text(&text, &data),
+            )
+        }
+        _ => unreachable!("records only"),
     }
 }

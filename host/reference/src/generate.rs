@@ -7,6 +7,7 @@ mod edges;
 pub mod make;
 mod operations;
 pub mod plans;
+pub mod records;
 pub mod rng;
 
 use crate::{Call, Plan, Refusal};
@@ -65,6 +66,20 @@ pub enum Op {
         sheet: Vec<u8>,
     },
     List,
+    /// How long the record text is.
+    RecordsLength(Plan),
+    WriteRecords {
+        plan: Plan,
+        text: Vec<u8>,
+        data: Vec<u8>,
+        records: Vec<u8>,
+    },
+    ReadRecords {
+        plan: Plan,
+        records: Vec<u8>,
+        text: Vec<u8>,
+        data: Vec<u8>,
+    },
 }
 
 impl Op {
@@ -94,6 +109,9 @@ impl Op {
             Op::ReadSheet { .. } => "read_sheet",
             Op::WriteSheet { .. } => "write_sheet",
             Op::List => "list",
+            Op::RecordsLength(_) => "records_length",
+            Op::WriteRecords { .. } => "write_records",
+            Op::ReadRecords { .. } => "read_records",
         }
     }
 }
@@ -116,10 +134,16 @@ pub struct Case {
     pub expected: Option<Expected>,
 }
 
-/// The case of a seed.
+/// The case of a seed. Every eighth is aimed at request 2; what belongs to the
+/// request is drawn by itself, so that the other cases stay as they are.
 pub fn case(seed: u64) -> Case {
     let rng = &mut Rng::new(seed);
-    let drawn = any_file(rng);
+    let later = &mut Rng::new(!seed);
+    let drawn = if seed % 8 == 7 {
+        records_file(later)
+    } else {
+        any_file(rng)
+    };
     let mut ops = operations::some_ops(rng, &drawn.made);
     ops.extend(drawn.more);
     let mut expected = None;
@@ -128,6 +152,7 @@ pub fn case(seed: u64) -> Case {
         ops.insert(at, op);
         expected = Some(Expected { op: at, refusal });
     }
+    ops.extend(records::some_op(later, &drawn.made));
     Case {
         seed,
         label: drawn.label,
@@ -172,7 +197,7 @@ fn any_file(rng: &mut Rng) -> Drawn {
         0..=179 => Drawn::plain("module", make::module(rng, &Wish::default())),
         180..=229 => Drawn::plain("object", make::object(rng, &Wish::default())),
         230..=629 => {
-            let which = rng.below(damage::count() as u64) as usize;
+            let which = rng.below(damage::base_count() as u64) as usize;
             let (name, hurt) = damage::single(rng, which);
             Drawn::aimed(format!("aimed: {name}"), hurt)
         }
@@ -193,6 +218,17 @@ fn any_file(rng: &mut Rng) -> Drawn {
                 ..Drawn::plain(&label, made)
             }
         }
+    }
+}
+
+/// A damage of S-records, and an operation without one.
+fn records_file(rng: &mut Rng) -> Drawn {
+    let which = rng.between(damage::base_count() as u64, damage::count() as u64 - 1);
+    let (name, hurt) = damage::single(rng, which as usize);
+    let more = vec![records::good_op(rng, &hurt.made)];
+    Drawn {
+        more,
+        ..Drawn::aimed(format!("aimed: {name}"), hurt)
     }
 }
 

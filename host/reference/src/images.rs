@@ -119,14 +119,14 @@ fn judge_move(
     judge_buffers(loaded, text, data)
 }
 
-fn judge_list(loaded: &Loaded, plan: &Plan) -> Result<(), Refusal> {
+pub(crate) fn judge_list(loaded: &Loaded, plan: &Plan) -> Result<(), Refusal> {
     if plan.list.len() as u64 != loaded.module.loader_symbols {
         return refuse(ROOM, 2);
     }
     Ok(())
 }
 
-fn judge_plan(loaded: &Loaded, plan: &Plan) -> Result<(), Refusal> {
+pub(crate) fn judge_plan(loaded: &Loaded, plan: &Plan) -> Result<(), Refusal> {
     let module = &loaded.module;
     let top = top(module.bits);
     let text = u128::from(plan.text);
@@ -145,7 +145,7 @@ fn judge_plan(loaded: &Loaded, plan: &Plan) -> Result<(), Refusal> {
     Ok(())
 }
 
-fn judge_buffers(loaded: &Loaded, text: usize, data: usize) -> Result<(), Refusal> {
+pub(crate) fn judge_buffers(loaded: &Loaded, text: usize, data: usize) -> Result<(), Refusal> {
     if text as u64 != loaded.module.text_size {
         return refuse(ROOM, 0);
     }
@@ -220,7 +220,7 @@ pub fn change(field: u64, amount: i128, subtract: bool, width: u64) -> u64 {
 }
 
 /// Entry and TOC addresses, moved as their sections.
-fn reached(loaded: &Loaded, plan: &Plan) -> Reached {
+pub(crate) fn reached(loaded: &Loaded, plan: &Plan) -> Reached {
     let module = &loaded.module;
     let moved = |section: u64, address: u64| {
         if section == 0 {

@@ -1,9 +1,11 @@
-//! A plain second reading of document 01 ("the exact rules").
+//! A plain second reading of document 01 ("the exact rules") and of the requests
+//! of document 02 that are in force.
 //!
 //! Each module follows one section of document 01, in its order:
 //! `opening`, `symbols`, `module`, `images` (plans, images, moves, the book),
-//! `sheet`, `lister`. `generate` makes test cases, `answer` runs one operation
-//! of a case and writes its answer down, `reached` counts the refusals by class.
+//! `sheet`, `lister`; `records` is request 2. `generate` makes test cases,
+//! `answer` runs one operation of a case and writes its answer down, `reached`
+//! counts the refusals by class.
 #![forbid(unsafe_code)]
 
 pub mod answer;
@@ -14,6 +16,7 @@ pub mod lister;
 pub mod module;
 pub mod opening;
 pub mod reached;
+pub mod records;
 pub mod sheet;
 pub mod symbols;
 
@@ -24,6 +27,7 @@ pub use module::{
     loader_symbols, module, relocations, LoaderSymbol, Module, Relocation,
 };
 pub use opening::{open, section, section_name, Section, Summary};
+pub use records::{read_records, records_length, write_records};
 pub use sheet::{read_sheet, write_sheet};
 pub use symbols::{csect, symbol, symbol_name, walk, walked, Csect, Symbol, Walk};
 
@@ -55,13 +59,16 @@ pub const OVERLAP: u64 = 18;
 pub const PLAN: u64 = 19;
 pub const ROOM: u64 = 20;
 pub const SHEET: u64 = 21;
+pub const RECORD: u64 = 22;
+pub const FORM: u64 = 23;
+pub const CLASH: u64 = 24;
 
 /// The word of a refusal number.
 pub fn word(number: u64) -> &'static str {
-    const WORDS: [&str; 22] = [
+    const WORDS: [&str; 25] = [
         "none", "SHORT", "MAGIC", "LIMIT", "KIND", "BOUNDS", "ADDRESS", "STRINGS", "INDEX", "AUX",
         "NAME", "SECTION", "CSECT", "MODULE", "THREAD", "LOADER", "LSYM", "LREL", "OVERLAP",
-        "PLAN", "ROOM", "SHEET",
+        "PLAN", "ROOM", "SHEET", "RECORD", "FORM", "CLASH",
     ];
     match WORDS.get(number as usize) {
         Some(word) => word,

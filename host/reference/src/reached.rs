@@ -1,9 +1,11 @@
-//! Which refusals were reached: every number of document 01 with every class of
-//! item it can have, in both formats, by group of operations.
+//! Which refusals were reached: every number of document 01, and of the requests
+//! in force, with every class of item it can have, in both formats, by group of
+//! operations.
 
 use crate::generate::Op;
 use crate::opening::{TBSS, TDATA};
-use crate::{open, word, Refusal};
+use crate::records::{bad_line, Fault};
+use crate::{module, open, word, Refusal, ROOM};
 use std::collections::BTreeMap;
 
 /// Operations that reach the same rules, in the order of 01.
@@ -19,12 +21,13 @@ pub enum Group {
     Move,
     List,
     Sheet,
+    Records,
 }
 
 use Group::*;
 
 /// Each group with its word, in the order of the table's columns.
-pub const GROUPS: [(Group, &str); 10] = [
+pub const GROUPS: [(Group, &str); 11] = [
     (Open, "open"),
     (Section, "section"),
     (Symbol, "symbol"),
@@ -35,14 +38,15 @@ pub const GROUPS: [(Group, &str); 10] = [
     (Move, "move"),
     (List, "list"),
     (Sheet, "sheet"),
+    (Records, "records"),
 ];
 
 /// Every operation opens the file, but those of sheets.
 const OPENING: &[Group] = &[
-    Open, Section, Symbol, Csect, Module, Lookup, Build, Move, List,
+    Open, Section, Symbol, Csect, Module, Lookup, Build, Move, List, Records,
 ];
-const LOADING: &[Group] = &[Module, Lookup, Build, Move, List];
-const PLANNED: &[Group] = &[Build, Move, List];
+const LOADING: &[Group] = &[Module, Lookup, Build, Move, List, Records];
+const PLANNED: &[Group] = &[Build, Move, List, Records];
 
 /// The formats in which a class can be reached. `Neither`: before the format is
 /// known, or without a file.
@@ -50,6 +54,7 @@ const PLANNED: &[Group] = &[Build, Move, List];
 pub enum Formats {
     Both,
     Only32,
+    Only64,
     Neither,
 }
 
@@ -130,12 +135,23 @@ pub const CLASSES: &[Class] = &[
     class(19, "import from 3", Only32, PLANNED),
     class(20, "0 text", Both, PLANNED),
     class(20, "0 sheet", Neither, &[Sheet]),
+    class(20, "0 record text", Only32, &[Records]),
     class(20, "1 data", Both, PLANNED),
     class(20, "2 list of a plan", Both, PLANNED),
     class(20, "2 list of a sheet", Neither, &[Sheet]),
     class(21, "0 under 20 bytes", Neither, &[Sheet]),
     class(21, "0 first count", Neither, &[Sheet]),
     class(21, "0 length", Neither, &[Sheet]),
+    class(22, "line: type", Only32, &[Records]),
+    class(22, "line: count", Only32, &[Records]),
+    class(22, "line: address", Only32, &[Records]),
+    class(22, "line: digit", Only32, &[Records]),
+    class(22, "line: checksum", Only32, &[Records]),
+    class(22, "line: end", Only32, &[Records]),
+    class(22, "line: missing", Only32, &[Records]),
+    class(22, "line: surplus", Only32, &[Records]),
+    class(23, "0", Only64, &[Records]),
+    class(24, "0", Only32, &[Records]),
 ];
 
 pub fn group_of(op: &Op) -> Group {
@@ -157,6 +173,7 @@ pub fn group_of(op: &Op) -> Group {
         Op::Move { .. } => Move,
         Op::Calls { .. } => List,
         Op::ReadSheet { .. } | Op::WriteSheet { .. } => Sheet,
+        Op::RecordsLength(_) | Op::WriteRecords { .. } | Op::ReadRecords { .. } => Records,
     }
 }
 
@@ -194,8 +211,9 @@ pub fn item_of(file: &[u8], op: &Op, refusal: &Refusal) -> &'static str {
             2 => "?",
             _ => "import from 3",
         },
-        20 => room(op, item),
+        20 => room(file, op, item),
         21 => sheet(op),
+        22 => record(file, op, item),
         _ if item == 0 => "0",
         _ => "?",
     }
@@ -284,9 +302,11 @@ fn thread(file: &[u8]) -> &'static str {
     }
 }
 
-fn room(op: &Op, item: u64) -> &'static str {
+fn room(file: &[u8], op: &Op, item: u64) -> &'static str {
+    let fits = |text: &[u8]| module(file).is_ok_and(|m| m.text_size == text.len() as u64);
     match (item, op) {
         (0, Op::WriteSheet { .. }) => "0 sheet",
+        (0, Op::WriteRecords { text, .. }) if fits(text) => "0 record text",
         (0, _) => "0 text",
         (1, _) => "1 data",
         (2, Op::ReadSheet { .. }) => "2 list of a sheet",
@@ -304,6 +324,25 @@ fn sheet(op: &Op) -> &'static str {
     }
 }
 
+/// RECORD: what is wrong with the line that is named.
+fn record(file: &[u8], op: &Op, item: u64) -> &'static str {
+    let bad = match op {
+        Op::ReadRecords { plan, records, .. } => bad_line(file, plan, records),
+        _ => None,
+    };
+    match bad.filter(|bad| bad.line == item).map(|bad| bad.fault) {
+        Some(Fault::Type) => "line: type",
+        Some(Fault::Count) => "line: count",
+        Some(Fault::Address) => "line: address",
+        Some(Fault::Digit) => "line: digit",
+        Some(Fault::Checksum) => "line: checksum",
+        Some(Fault::End) => "line: end",
+        Some(Fault::Missing) => "line: missing",
+        Some(Fault::Surplus) => "line: surplus",
+        None => "?",
+    }
+}
+
 /// How often each class was reached.
 #[derive(Default)]
 pub struct Table {
@@ -318,12 +357,20 @@ fn rows() -> Vec<Row> {
     let formats = |class: &Class| match class.formats {
         Both => vec![32, 64],
         Only32 => vec![32],
+        Only64 => vec![64],
         Neither => vec![0],
     };
     CLASSES
         .iter()
         .flat_map(|c| formats(c).into_iter().map(move |bits| (c, bits)))
         .collect()
+}
+
+/// Whether a group can reach a row. Records of XCOFF64 are refused before the
+/// images' lengths are looked at.
+fn can_reach((class, bits): Row, group: Group) -> bool {
+    let image = class.number == ROOM && !class.item.starts_with('2');
+    class.groups.contains(&group) && !(group == Records && bits == 64 && image)
 }
 
 impl Table {
@@ -378,7 +425,7 @@ impl Table {
         let mut all = Vec::new();
         for row in rows() {
             for (group, word) in GROUPS {
-                if row.0.groups.contains(&group) && self.cell(row, group) == 0 {
+                if can_reach(row, group) && self.cell(row, group) == 0 {
                     all.push(format!("{} by {word}", title(row)));
                 }
             }
@@ -389,9 +436,9 @@ impl Table {
     /// Refusals that are in no row, or were given where they cannot be.
     pub fn strange(&self) -> Vec<String> {
         let known = |&(number, item, bits, group): &(u64, &str, u64, Group)| {
-            rows().iter().any(|(class, b)| {
-                (class.number, class.item, *b) == (number, item, bits)
-                    && class.groups.contains(&group)
+            rows().iter().any(|&(class, b)| {
+                (class.number, class.item, b) == (number, item, bits)
+                    && can_reach((class, b), group)
             })
         };
         let strange = self.reached.keys().filter(|key| !known(key));
@@ -409,7 +456,7 @@ impl Table {
             text += &title(row);
             for (group, _) in GROUPS {
                 text += &match self.cell(row, group) {
-                    0 if !row.0.groups.contains(&group) => format!(" {:>7}", "."),
+                    0 if !can_reach(row, group) => format!(" {:>7}", "."),
                     0 => format!(" {:>7}", "never"),
                     times => format!(" {times:>7}"),
                 };

@@ -1,8 +1,9 @@
 //! Laws over generated cases.
 
-use reference::generate::damage::{self, ROWS, STEPS};
+use reference::generate::damage::{self, STEPS};
 use reference::generate::make::{self, Made, Wish};
 use reference::generate::plans::{buffers, fitting_plan};
+use reference::generate::records::clear_plan;
 use reference::generate::rng::Rng;
 use reference::generate::{case, Op};
 use reference::*;
@@ -69,7 +70,7 @@ fn every_damage_gives_its_refusal() {
         let number = if which < STEPS.len() {
             STEPS[which].number
         } else {
-            ROWS[which - STEPS.len()].number
+            damage::rows().nth(which - STEPS.len()).unwrap().number
         };
         let times = if which == 0 { 3 } else { 60 };
         for seed in 0..times {
@@ -295,12 +296,61 @@ fn sheets_come_back() {
 }
 
 #[test]
+fn records_come_back() {
+    for seed in 0..SEEDS {
+        let mut rng = Rng::new(seed);
+        let wish = Wish {
+            bits: Some(32),
+            rich: seed % 2 == 0,
+            empty: seed % 50 == 0,
+            ..Wish::default()
+        };
+        let made = make::module(&mut rng, &wish);
+        let (file, plan) = (&made.bytes, clear_plan(&mut rng, &made));
+        let (text, data) = buffers(&mut rng, &made);
+        let length = records_length(file, &plan).expect("a clear plan");
+        let mut records = rng.bytes(length as usize);
+        write_records(file, &plan, &text, &data, &mut records).unwrap();
+        let (mut read_text, mut read_data) = buffers(&mut rng, &made);
+        read_records(file, &plan, &records, &mut read_text, &mut read_data).unwrap();
+        assert_eq!((read_text, read_data), (text, data), "seed {seed}");
+    }
+}
+
+#[test]
+fn records_that_are_read_write_back() {
+    let mut accepted = 0;
+    for seed in 0..SEEDS {
+        let case = case(seed);
+        for op in &case.ops {
+            if let Op::ReadRecords {
+                plan,
+                records,
+                text,
+                data,
+            } = op
+            {
+                let (mut text, mut data) = (text.clone(), data.clone());
+                if read_records(&case.file, plan, records, &mut text, &mut data).is_ok() {
+                    let mut again = vec![0; records.len()];
+                    write_records(&case.file, plan, &text, &data, &mut again).unwrap();
+                    assert_eq!(again, *records, "seed {seed}");
+                    accepted += 1;
+                }
+            }
+        }
+    }
+    assert!(accepted > 100, "{accepted} texts were accepted");
+}
+
+#[test]
 fn a_refusal_changes_no_byte() {
     for seed in 0..SEEDS {
         let case = case(seed);
         for op in &case.ops {
             judge_images(&case.file, op);
             judge_sheet(op);
+            judge_records(&case.file, op);
         }
     }
 }
@@ -340,6 +390,35 @@ fn judge_sheet(op: &Op) {
             let mut after = sheet.clone();
             if write_sheet(*text, *data, list, &mut after).is_err() {
                 assert_eq!(after, *sheet);
+            }
+        }
+        _ => {}
+    }
+}
+
+/// A refused record text.
+fn judge_records(file: &[u8], op: &Op) {
+    match op {
+        Op::WriteRecords {
+            plan,
+            text,
+            data,
+            records,
+        } => {
+            let mut after = records.clone();
+            if write_records(file, plan, text, data, &mut after).is_err() {
+                assert_eq!(after, *records);
+            }
+        }
+        Op::ReadRecords {
+            plan,
+            records,
+            text,
+            data,
+        } => {
+            let (mut read_text, mut read_data) = (text.clone(), data.clone());
+            if read_records(file, plan, records, &mut read_text, &mut read_data).is_err() {
+                assert!(read_text == *text && read_data == *data);
             }
         }
         _ => {}

@@ -92,6 +92,15 @@ room-item-requires c κs = search needs
 enum-told-4 : tie.Need-enum-told-4
 enum-told-4 c = search needs
 
+enum-known-x-18 : tie.Need-enum-known-x-18
+enum-known-x-18 c = search needs
+
+enum-told-5 : tie.Need-enum-told-5
+enum-told-5 c = search needs
+
+enum-told-6 : tie.Need-enum-told-6
+enum-told-6 c = search needs
+
 returns : tie.Need-returns
 returns c = rw (c .enum-told .given .1)
 
@@ -155,6 +164,15 @@ returns-20 c = rw (c .before .before .x17 .given .1) (c .room-item .ensures)
 returns-21 : tie.Need-returns-21
 returns-21 c = rw (c .enum-told4 .given .1)
 
+returns-22 : tie.Need-returns-22
+returns-22 c = rw (c .before .x18 .given .1)
+
+returns-23 : tie.Need-returns-23
+returns-23 c = rw (c .enum-told5 .given .1)
+
+returns-24 : tie.Need-returns-24
+returns-24 c = rw (c .enum-told6 .given .1)
+
 pub item-spec : {M : Type 1} → statement M
 item-spec =
     tie.close
@@ -189,6 +207,9 @@ item-spec =
     enum-known-x-17
     room-item-requires
     enum-told-4
+    enum-known-x-18
+    enum-told-5
+    enum-told-6
     returns
     returns-2
     returns-3
@@ -209,4 +230,7 @@ item-spec =
     returns-18
     returns-19
     returns-20
-    returns-21)
+    returns-21
+    returns-22
+    returns-23
+    returns-24)

@@ -3,12 +3,13 @@
 //! `STEPS` damage a file in place. They are listed in the order in which 01
 //! checks; a step's `stage` is its place in that order, so that of two damages
 //! in one file the one with the lower stage must be given. `ROWS` make whole
-//! cases: symbols, csects, look-ups, plans, buffers and sheets.
+//! cases: symbols, csects, look-ups, plans, buffers and sheets. Those of S-records
+//! are in `records`.
 
 use super::make::{self, top, Aux, Field, Head, Made, Part, Wish};
 use super::plans::{buffers, fitting_plan, past_end, reveal_module, reveal_open};
 use super::rng::Rng;
-use super::Op;
+use super::{records, Op};
 use crate::bytes::put;
 use crate::opening::{
     BSS, DATA, DELETED, DWARF, INFO, KINDS, LOADER as LOADER_KIND, OVRFLO, TBSS, TDATA, TEXT,
@@ -1480,17 +1481,27 @@ pub static ROWS: &[Row] = &[
     },
 ];
 
-/// How many damages there are in all.
-pub fn count() -> usize {
+/// How many damages of document 01 there are.
+pub fn base_count() -> usize {
     STEPS.len() + ROWS.len()
 }
 
-/// Their names.
+/// How many damages there are in all, those of S-records last.
+pub fn count() -> usize {
+    base_count() + records::ROWS.len()
+}
+
+/// The rows in their order, those of S-records last.
+pub fn rows() -> impl Iterator<Item = &'static Row> {
+    ROWS.iter().chain(records::ROWS)
+}
+
+/// The names of all damages.
 pub fn names() -> impl Iterator<Item = &'static str> {
     STEPS
         .iter()
         .map(|step| step.name)
-        .chain(ROWS.iter().map(|row| row.name))
+        .chain(rows().map(|row| row.name))
 }
 
 /// Damage number `which`: first the steps, then the rows.
@@ -1504,7 +1515,7 @@ pub fn single(rng: &mut Rng, which: usize) -> (String, Hurt) {
                 return (step.name.to_string(), Hurt { made, op, refusal });
             }
         } else {
-            let row = &ROWS[which - STEPS.len()];
+            let row = rows().nth(which - STEPS.len()).expect("a row");
             if let Some(hurt) = (row.make)(rng) {
                 return (row.name.to_string(), hurt);
             }
@@ -1552,7 +1563,7 @@ fn rng_between(low: u64, high: u64) -> u64 {
     low + (high - low) / 2
 }
 
-fn hurt(made: Made, op: Op, number: u64, item: u64) -> Option<Hurt> {
+pub(super) fn hurt(made: Made, op: Op, number: u64, item: u64) -> Option<Hurt> {
     Some(Hurt {
         made,
         op,
@@ -1565,7 +1576,7 @@ fn rich(rng: &mut Rng) -> Made {
     rich_with(rng, |_| ())
 }
 
-fn rich_with(rng: &mut Rng, change: fn(&mut Wish)) -> Made {
+pub(super) fn rich_with(rng: &mut Rng, change: fn(&mut Wish)) -> Made {
     let mut wish = Wish {
         rich: true,
         low: rng.chance(40),
@@ -1849,7 +1860,7 @@ fn rich_for(rng: &mut Rng, aim: u64) -> Made {
 }
 
 /// Does one problem; gives its item.
-fn spoil(
+pub(super) fn spoil(
     rng: &mut Rng,
     made: &Made,
     plan: &mut Plan,
@@ -1898,7 +1909,7 @@ fn spoil(
     }
 }
 
-fn wrong_length(rng: &mut Rng, buffer: &mut Vec<u8>) {
+pub(super) fn wrong_length(rng: &mut Rng, buffer: &mut Vec<u8>) {
     let right = buffer.len();
     let wrong = rng.pick(&[0, right - 1, right + 1, right + 8]);
     buffer.resize(wrong, 0xA5);

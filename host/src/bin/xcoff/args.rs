@@ -100,14 +100,7 @@ impl Arguments {
     /// Everything that must be given is, and nothing more.
     fn complete(&self) -> Result<(), Problem> {
         let syntax = self.command;
-        let given = self.operands.len();
-        if let Some(missing) = syntax.operands.get(given) {
-            return Err(self.wrong(format!("{missing} is missing")));
-        }
-        if let Some(extra) = self.operands.get(syntax.operands.len() + syntax.optional) {
-            let extra = escape::argument(extra);
-            return Err(self.wrong(format!("{extra} is one argument too many")));
-        }
+        self.operands_are(syntax.operands, syntax.optional)?;
         match syntax
             .options
             .iter()
@@ -122,7 +115,21 @@ impl Arguments {
         }
     }
 
-    fn wrong(&self, text: String) -> Problem {
+    /// The operands are these, and at most so many more.
+    pub fn operands_are(&self, names: &[&str], optional: usize) -> Result<(), Problem> {
+        if let Some(missing) = names.get(self.operands.len()) {
+            return Err(self.wrong(format!("{missing} is missing")));
+        }
+        match self.operands.get(names.len() + optional) {
+            Some(extra) => {
+                let extra = escape::argument(extra);
+                Err(self.wrong(format!("{extra} is one argument too many")))
+            }
+            None => Ok(()),
+        }
+    }
+
+    pub fn wrong(&self, text: String) -> Problem {
         Problem::usage(self.command, text)
     }
 }

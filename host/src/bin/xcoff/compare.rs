@@ -1,12 +1,12 @@
 //! Images compared with those of a plan: the relocated fields, and all other bytes.
 
 use crate::escape;
+use crate::found::Found;
 use crate::listing::{hex, number, word, Cell, Listing};
 use crate::lists::image_word;
 use crate::load::{Loaded, Pair, Sheet};
-use crate::output::refused;
+use crate::output::{complain, refused};
 use crate::problem::Problem;
-use std::path::Path;
 use xcoff::{Image, Relocation};
 
 /// Fields that a report shows before it only counts.
@@ -18,12 +18,21 @@ pub const IMAGES: [Image; 2] = [Image::Text, Image::Data];
 pub struct Fields(Vec<Relocation>);
 
 /// Where two images first differ.
-pub struct Difference {
-    pub offset: usize,
-    pub found: u8,
-    pub expected: u8,
+struct Difference {
+    offset: usize,
+    found: u8,
+    expected: u8,
     /// Bytes that differ in all.
-    pub count: usize,
+    count: usize,
+}
+
+/// Images as they were found, beside those of the plan that they should be for.
+pub struct Beside<'a> {
+    file: &'a Loaded<'a>,
+    pub sheet: &'a Sheet<'a>,
+    pub found: &'a Found<'a>,
+    pub fields: Fields,
+    pub expected: Pair,
 }
 
 impl Fields {
@@ -121,7 +130,7 @@ fn hex_of(bytes: &[u8]) -> String {
 }
 
 /// Images of the same length.
-pub fn difference(found: &[u8], expected: &[u8]) -> Option<Difference> {
+fn difference(found: &[u8], expected: &[u8]) -> Option<Difference> {
     let mut differing = (0..found.len()).filter(|&at| found[at] != expected[at]);
     let offset = differing.next()?;
     Some(Difference {
@@ -132,32 +141,120 @@ pub fn difference(found: &[u8], expected: &[u8]) -> Option<Difference> {
     })
 }
 
-/// Bytes outside the relocated fields that are not the module's: a card's program may have written there, so a move keeps
-/// them, but whoever moves should know.
-pub fn warnings(
-    fields: &Fields,
-    from: &Sheet,
-    digits: usize,
-    paths: [&Path; 2],
-    found: &Pair,
-    expected: &Pair,
-) -> Vec<String> {
-    let mixed = fields.put_into(expected, found);
-    let warning = |(image, path): (Image, &Path)| {
-        let d = difference(found.image(image), mixed.image(image))?;
-        let address = from.address(image) + d.offset as u64;
-        let (bytes, are) = if d.count == 1 {
-            ("byte", "is")
-        } else {
-            ("bytes", "are")
+impl<'a> Beside<'a> {
+    pub fn new(
+        file: &'a Loaded,
+        sheet: &'a Sheet,
+        found: &'a Found,
+    ) -> Result<Beside<'a>, Problem> {
+        Ok(Beside {
+            file,
+            sheet,
+            found,
+            fields: Fields::of(file)?,
+            expected: file.build_sheet(sheet)?.0,
+        })
+    }
+
+    fn wrong(&self) -> Fields {
+        self.fields.wrong(&self.found.pair, &self.expected)
+    }
+
+    pub fn fields_equal(&self) -> bool {
+        self.wrong().count() == 0
+    }
+
+    /// "N of M relocated fields are not those of SHEET".
+    fn wrong_words(&self) -> String {
+        format!(
+            "{} of {} relocated fields are not those of {}",
+            self.wrong().count(),
+            self.fields.count(),
+            escape::argument(self.sheet.path)
+        )
+    }
+
+    /// The address of a byte that differs, and where it was found.
+    fn first(&self, image: Image, d: &Difference) -> String {
+        format!(
+            "the first at {:0digits$x} ({})",
+            self.sheet.address(image) + d.offset as u64,
+            self.found.at(image, d.offset),
+            digits = self.file.digits()
+        )
+    }
+
+    /// Relocated fields are not the plan's: a line that says so, what else there is to say, and the fields.
+    pub fn not_its_fields(&self, more: Option<String>) -> Problem {
+        let mut lines = vec![format!(
+            "xcoff: {}: {}; nothing is changed",
+            self.found.names(),
+            self.wrong_words()
+        )];
+        lines.extend(more);
+        let digits = self.file.digits();
+        let (found, expected) = (&self.found.pair, &self.expected);
+        lines.extend(self.wrong().table(self.sheet, digits, found, expected));
+        Problem::Unequal(lines)
+    }
+
+    /// Warns of bytes outside the relocated fields that are not the module's: a card's program may have written there, so
+    /// they are kept, but whoever goes on with them should know.
+    pub fn warn(&self) {
+        let mixed = self.fields.put_into(&self.expected, &self.found.pair);
+        let warning = |image: Image| {
+            let d = difference(self.found.pair.image(image), mixed.image(image))?;
+            let (bytes, are) = match d.count {
+                1 => ("byte", "is"),
+                _ => ("bytes", "are"),
+            };
+            Some(format!(
+                "xcoff: warning: {}: {} {bytes} outside the relocated fields {are} not the module's, {}; kept as found",
+                escape::argument(self.found.path(image)),
+                d.count,
+                self.first(image, &d)
+            ))
         };
-        Some(format!(
-            "xcoff: warning: {}: {} {bytes} outside the relocated fields {are} not the module's, \
-             the first at {address:0digits$x} (offset {}); kept as found",
-            escape::argument(path),
+        complain(&IMAGES.into_iter().filter_map(warning).collect::<Vec<_>>());
+    }
+
+    /// How the images differ from the plan's, a line for each thing to say; none where they do not.
+    pub fn differences(&self) -> Vec<String> {
+        if self.found.pair == self.expected {
+            return Vec::new();
+        }
+        let mut lines: Vec<String> = IMAGES.map(|image| self.image_line(image)).into();
+        lines.push(if self.fields_equal() {
+            let name = escape::argument(self.sheet.path);
+            format!("xcoff: the relocated fields are those of {name}")
+        } else {
+            format!("xcoff: {}", self.wrong_words())
+        });
+        lines
+    }
+
+    fn image_line(&self, image: Image) -> String {
+        let d = difference(self.found.pair.image(image), self.expected.image(image));
+        let line = format!(
+            "xcoff: {} the {} image for {}",
+            self.found.is_or_not(image, d.is_none()),
+            image_word(image),
+            escape::argument(self.sheet.path)
+        );
+        let Some(d) = d else {
+            return line;
+        };
+        format!(
+            "{line}: {} {}, {}, found {:02x}, expected {:02x}",
             d.count,
-            d.offset
-        ))
-    };
-    IMAGES.into_iter().zip(paths).filter_map(warning).collect()
+            if d.count == 1 {
+                "byte differs"
+            } else {
+                "bytes differ"
+            },
+            self.first(image, &d),
+            d.found,
+            d.expected
+        )
+    }
 }

@@ -44,23 +44,29 @@ impl<'p> Loaded<'p> {
         lists::digits(self.module.format)
     }
 
-    /// The images for a plan, and the addresses reached.
-    pub fn build(&self, plan: &Plan) -> Result<(Pair, Reached), Refusal> {
-        let mut pair = Pair {
+    /// Room for both images.
+    pub fn room(&self) -> Pair {
+        Pair {
             text: vec![0; self.module.text.size as usize],
             data: vec![0; self.module.image as usize],
-        };
+        }
+    }
+
+    /// The images for a plan, and the addresses reached.
+    pub fn build(&self, plan: &Plan) -> Result<(Pair, Reached), Refusal> {
+        let mut pair = self.room();
         let reached = xcoff::build_images(&self.bytes, plan, &mut pair.text, &mut pair.data)?;
         Ok((pair, reached))
     }
 
     /// The same for a sheet's plan: a refusal is about the two together, since the module itself is accepted.
     pub fn build_sheet(&self, sheet: &Sheet) -> Result<(Pair, Reached), Problem> {
-        let built = self.build(&sheet.plan);
-        built.map_err(|refusal| Problem::Refused {
-            about: self.with(sheet, &refusal),
-            refusal,
-        })
+        self.with_sheet(sheet, self.build(&sheet.plan))
+    }
+
+    /// An answer about a sheet for this module.
+    pub fn with_sheet<T>(&self, sheet: &Sheet, answer: Result<T, Refusal>) -> Result<T, Problem> {
+        answer.map_err(|refusal| Problem::refused(self.with(sheet, &refusal), refusal))
     }
 
     /// "SHEET for FILE", with the counts where these are what is refused.
@@ -103,6 +109,11 @@ impl Pair {
             text: files::read(text, files::IMAGE)?,
             data: files::read(data, files::IMAGE)?,
         })
+    }
+
+    /// The images as S-records, as they are.
+    pub fn records(&self, file: &Loaded, sheet: &Sheet) -> Result<Vec<u8>, Refusal> {
+        xcoff::write_records(&file.bytes, &sheet.plan, &self.text, &self.data)
     }
 
     pub fn image(&self, image: Image) -> &[u8] {

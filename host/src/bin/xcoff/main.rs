@@ -1,13 +1,15 @@
-//! `xcoff`: lists XCOFF files, builds and moves the images of modules.
+//! `xcoff`: lists XCOFF files, builds and moves the images of modules, writes and reads them as S-records.
 //!
-//! Every file, sheet, plan and image goes to the proved library as it is; nothing is judged here. The one check of this
-//! command's own is that images are moved from the plan they are for.
+//! Every file, sheet, plan, image and record text goes to the proved library as it is; nothing is judged here. The one
+//! check of this command's own is that images are for the plan that they are moved from, or that their records are for.
 #![forbid(unsafe_code)]
 
 mod args;
+mod check;
 mod compare;
 mod escape;
 mod files;
+mod found;
 mod images;
 mod listing;
 mod lists;
@@ -15,6 +17,7 @@ mod load;
 mod output;
 mod plans;
 mod problem;
+mod records;
 mod syntax;
 mod words;
 

@@ -34,20 +34,24 @@ pub fn say_done(line: &str) -> Result<(), Problem> {
 
 /// An answer about one file.
 pub fn refused<T>(path: &Path, answer: Result<T, Refusal>) -> Result<T, Problem> {
-    answer.map_err(|refusal| Problem::Refused {
-        about: escape::argument(path),
-        refusal,
-    })
+    answer.map_err(|refusal| Problem::refused(escape::argument(path), refusal))
 }
 
 /// The entry and TOC addresses that a call reached.
 pub fn reached_words(reached: &Reached, digits: usize) -> String {
-    let address = |a: Option<u64>| a.map_or("none".to_string(), |a| format!("{a:0digits$x}"));
     format!(
-        "entry {}, TOC {}",
-        address(reached.entry),
-        address(reached.toc)
+        "{}, TOC {}",
+        entry_words(reached, digits),
+        address_or_none(reached.toc, digits)
     )
+}
+
+pub fn entry_words(reached: &Reached, digits: usize) -> String {
+    format!("entry {}", address_or_none(reached.entry, digits))
+}
+
+fn address_or_none(address: Option<u64>, digits: usize) -> String {
+    address.map_or("none".to_string(), |a| format!("{a:0digits$x}"))
 }
 
 /// Lines on standard error. Where no one can be told, there is nothing more to do.

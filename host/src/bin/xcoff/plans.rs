@@ -36,9 +36,9 @@ pub fn plan(args: &Arguments) -> Result<(), Problem> {
     place_imports(args, &given, &symbols, &mut plan.list)?;
 
     // A sheet that no build would take is of no use: the build itself says so.
-    let (_, reached) = file.build(&plan).map_err(|refusal| Problem::Refused {
-        about: format!("the plan for {}", escape::argument(file.path)),
-        refusal,
+    let (_, reached) = file.build(&plan).map_err(|refusal| {
+        let about = format!("the plan for {}", escape::argument(file.path));
+        Problem::refused(about, refusal)
     })?;
     let sheet = refused(out, xcoff::write_sheet(&plan))?;
     files::replace(&[(out, &sheet)])?;

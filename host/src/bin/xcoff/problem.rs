@@ -10,8 +10,13 @@ pub enum Problem {
         command: Option<&'static Command>,
         text: String,
     },
-    /// The rules refuse a file, a sheet or a plan.
-    Refused { about: String, refusal: Refusal },
+    /// The rules refuse a file, a sheet, a plan or records.
+    Refused {
+        about: String,
+        refusal: Refusal,
+        /// Lines that show what is refused.
+        shown: Vec<String>,
+    },
     /// Images are not what they should be: a line for each thing to say.
     Unequal(Vec<String>),
     /// The system refuses.
@@ -31,6 +36,14 @@ impl Problem {
         Problem::Usage {
             command: Some(command),
             text: text.into(),
+        }
+    }
+
+    pub fn refused(about: String, refusal: Refusal) -> Problem {
+        Problem::Refused {
+            about,
+            refusal,
+            shown: Vec::new(),
         }
     }
 
@@ -67,11 +80,22 @@ impl fmt::Display for Problem {
                     c.name, c.usage, c.name
                 )
             }
-            Problem::Refused { about, refusal } => writeln!(f, "xcoff: {about}: {refusal}"),
-            Problem::Unequal(lines) => lines.iter().try_for_each(|line| writeln!(f, "{line}")),
+            Problem::Refused {
+                about,
+                refusal,
+                shown,
+            } => {
+                writeln!(f, "xcoff: {about}: {refusal}")?;
+                write_lines(f, shown)
+            }
+            Problem::Unequal(lines) => write_lines(f, lines),
             Problem::System { doing, reason } => writeln!(f, "xcoff: {doing}: {reason}"),
         }
     }
+}
+
+fn write_lines(f: &mut fmt::Formatter<'_>, lines: &[String]) -> fmt::Result {
+    lines.iter().try_for_each(|line| writeln!(f, "{line}"))
 }
 
 /// The system's own words, without the number that Rust puts behind them.

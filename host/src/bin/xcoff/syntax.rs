@@ -2,7 +2,7 @@
 
 use crate::args::Arguments;
 use crate::problem::Problem;
-use crate::{images, lists, plans};
+use crate::{check, images, lists, plans, records};
 
 pub struct Command {
     pub name: &'static str,
@@ -69,7 +69,7 @@ const fn lister(
     }
 }
 
-pub static COMMANDS: [Command; 10] = [
+pub static COMMANDS: [Command; 12] = [
     lister(
         "headers",
         "the file header and the sections",
@@ -147,13 +147,40 @@ pub static COMMANDS: [Command; 10] = [
     },
     Command {
         name: "check",
-        usage: "FILE SHEET TEXT DATA [--or SHEET]...",
-        operands: &["FILE", "SHEET", "TEXT", "DATA"],
-        optional: 0,
-        options: &[repeated("--or", &["SHEET"])],
-        summary: "says whether images are those of a sheet",
+        usage: "FILE SHEET {TEXT DATA | --records RECORDS} [--or SHEET]...",
+        operands: &["FILE", "SHEET"],
+        optional: 2,
+        options: &[
+            flag("--records", &["RECORDS"]),
+            repeated("--or", &["SHEET"]),
+        ],
+        summary: "says whether images or records are those of a sheet",
         help: CHECK,
-        run: images::check,
+        run: check::check,
+    },
+    Command {
+        name: "records",
+        usage: "FILE SHEET [--images TEXT DATA [--unchecked]] -o RECORDS",
+        operands: &["FILE", "SHEET"],
+        optional: 0,
+        options: &[
+            flag("--images", &["TEXT", "DATA"]),
+            flag("--unchecked", &[]),
+            required("-o", &["RECORDS"]),
+        ],
+        summary: "writes images as S-records for a PROM programmer",
+        help: RECORDS,
+        run: records::records,
+    },
+    Command {
+        name: "images",
+        usage: "FILE SHEET RECORDS [--unchecked] -o TEXT DATA",
+        operands: &["FILE", "SHEET", "RECORDS"],
+        optional: 0,
+        options: &[flag("--unchecked", &[]), required("-o", &["TEXT", "DATA"])],
+        summary: "reads S-records back into images",
+        help: IMAGES,
+        run: records::images,
     },
 ];
 
@@ -181,7 +208,8 @@ const OVERVIEW_START: &str = "\
 usage: xcoff COMMAND ARGUMENT...
 
 Reads XCOFF modules, builds their text and data images for the addresses of one
-card, and moves images when a memory board is swapped.
+card, moves images when a memory board is swapped, and writes and reads them as
+S-records for a PROM programmer.
 
 ";
 
@@ -313,12 +341,48 @@ them anew.
 ";
 
 const CHECK: &str = "\
-Compares images with those of a plan. Exit status 0: they are exactly the same.
-Otherwise 1, with the first address where each image differs, and whether at least
-the relocated fields are the plan's. An image of the wrong length is refused.
+Compares images, or those that a file of S-records holds, with those of a plan.
+Exit status 0: they are exactly the same. Otherwise 1, with the first address where
+each image differs, and whether at least the relocated fields are the plan's. An
+image of the wrong length, or a record that is not as 'xcoff records' writes it, is
+refused.
 
   xcoff check diag.xcoff card7.sheet card7.text card7.data --or card9.sheet
+  xcoff check diag.xcoff card7.sheet --records card7.srec
 
---or SHEET  another plan that the images may be for; 0 is for any of them, and the
-            line printed says which
+--records RECORDS  a file of S-records, instead of TEXT and DATA
+--or SHEET         another plan that the images may be for; 0 is for any of them,
+                   and the line printed says which
+";
+
+const RECORDS: &str = "\
+Builds the images of an XCOFF32 module for a plan sheet and writes them as Motorola
+S-records: S3 lines of 32 bytes, the text image first, then the data image, and one
+S7 line with the entry address, or 0 where there is none. Images that share an
+address are refused. The file is written beside, synced and then renamed.
+
+  xcoff records diag.xcoff card7.sheet -o card7.srec
+
+With --images, images that were built before are written as they are. Their
+relocated fields must be the sheet's, or the command shows them, writes nothing and
+exits with 1. Other bytes that are not the module's are kept, with a warning.
+
+-o RECORDS          the file to write; an old one is replaced whole
+--images TEXT DATA  the images, instead of a build
+--unchecked         with --images: writes the images whatever they hold
+";
+
+const IMAGES: &str = "\
+Reads S-records into the two images of a module and writes these to TEXT and DATA.
+The records must be exactly those that 'xcoff records' writes for the sheet, but for
+the data bytes, which may be any: the first line that is not is refused (22 RECORD)
+and shown as the file has it, beside that of the sheet's own images. The relocated
+fields must be the sheet's, or the command shows them, writes nothing and exits with
+1. Other bytes that are not the module's are kept, with a warning. So without a
+warning the images are exactly those of the sheet.
+
+  xcoff images diag.xcoff card7.sheet card7.srec -o card7.text card7.data
+
+-o TEXT DATA  the files to write; old ones are replaced whole
+--unchecked   writes the images whatever they hold
 ";

@@ -11,6 +11,8 @@ pub fn answer(case: &Json) -> Json {
         "build" | "move" | "module_calls" => image_answer(file, case),
         "sheet_read" => sheet_read(case),
         "sheet_write" => sheet_write(case),
+        "srecord_write" => srecord_write(file, case),
+        "srecord_read" => srecord_read(file, case),
         "list" => alone(Json::Text(list_headers(file))),
         op => alone(given(read_answer(file, op, case))),
     }
@@ -162,4 +164,30 @@ fn sheet_write(case: &Json) -> Json {
         ("answer", answer),
         ("buffers", object(vec![("sheet", hex(&sheet))])),
     ])
+}
+
+fn srecord_write(file: &[u8], case: &Json) -> Json {
+    let lent = case.get("buffers");
+    let (text, data) = (lent.get("text").bytes(), lent.get("data").bytes());
+    let mut records = lent.get("records").bytes();
+    let plan = plan(case.get("plan"));
+    let result = write_records(file, &plan, &text, &data, &mut records);
+    let answer = given(result.map(|()| Json::Null));
+    let lent = object(vec![
+        ("text", hex(&text)),
+        ("data", hex(&data)),
+        ("records", hex(&records)),
+    ]);
+    object(vec![("answer", answer), ("buffers", lent)])
+}
+
+fn srecord_read(file: &[u8], case: &Json) -> Json {
+    let lent = case.get("buffers");
+    let (mut text, mut data) = (lent.get("text").bytes(), lent.get("data").bytes());
+    let records = case.get("records").bytes();
+    let plan = plan(case.get("plan"));
+    let result = read_records(file, &plan, &records, &mut text, &mut data);
+    let answer = given(result.map(|()| Json::Null));
+    let lent = object(vec![("text", hex(&text)), ("data", hex(&data))]);
+    object(vec![("answer", answer), ("buffers", lent)])
 }

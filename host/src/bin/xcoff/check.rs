@@ -1,0 +1,81 @@
+//! The command `check`.
+
+use crate::args::Arguments;
+use crate::compare::Beside;
+use crate::escape;
+use crate::found::{Found, RecordText};
+use crate::load::{Loaded, Sheet};
+use crate::output::say;
+use crate::problem::Problem;
+use std::path::Path;
+
+/// What is compared with plans.
+enum Given<'p> {
+    Images(Found<'p>),
+    Records(RecordText<'p>),
+}
+
+impl<'p> Given<'p> {
+    fn read(args: &'p Arguments, file: &Loaded, sheets: &[Sheet]) -> Result<Given<'p>, Problem> {
+        match args.paths("--records") {
+            Some(path) => RecordText::read(path[0], file, sheets).map(Given::Records),
+            None => Found::read(args.path(2), args.path(3)).map(Given::Images),
+        }
+    }
+
+    fn differences(&self, file: &Loaded, sheet: &Sheet) -> Result<Vec<String>, Problem> {
+        match self {
+            Given::Images(found) => differences(file, sheet, found),
+            Given::Records(records) => differences(file, sheet, &records.images(file, sheet)?),
+        }
+    }
+
+    /// "FILES are" the images.
+    fn are(&self) -> String {
+        match self {
+            Given::Images(found) => format!("{} are", found.names()),
+            Given::Records(records) => format!("{} holds", records.name()),
+        }
+    }
+}
+
+pub fn check(args: &Arguments) -> Result<(), Problem> {
+    let operands = ["FILE", "SHEET", "TEXT", "DATA"];
+    let needed = if args.has("--records") { 2 } else { 4 };
+    args.operands_are(&operands[..needed], 0)?;
+    let file = Loaded::read(args.path(0))?;
+    let others = args.each("--or").map(|value| Path::new(&value[0]));
+    let sheets = [args.path(1)]
+        .into_iter()
+        .chain(others)
+        .map(Sheet::read)
+        .collect::<Result<Vec<_>, _>>()?;
+    let given = Given::read(args, &file, &sheets)?;
+    let mut equal = Vec::new();
+    let mut lines = Vec::new();
+    for sheet in &sheets {
+        match given.differences(&file, sheet) {
+            Ok(none) if none.is_empty() => equal.push(escape::argument(sheet.path)),
+            Ok(differences) => lines.extend(differences),
+            Err(problem) if sheets.len() == 1 => return Err(problem),
+            // Of several sheets, one that does not fit is one that the images are not for.
+            Err(problem) => lines.push(problem.to_string().trim_end().to_string()),
+        }
+    }
+    if equal.is_empty() {
+        return Err(Problem::Unequal(lines));
+    }
+    say(&format!(
+        "{} the images of {} for {}",
+        given.are(),
+        escape::argument(file.path),
+        equal.join(" and ")
+    ))
+}
+
+/// How the images differ from a plan's, a line for each thing to say; none where they do not.
+fn differences(file: &Loaded, sheet: &Sheet, found: &Found) -> Result<Vec<String>, Problem> {
+    // A move to the same plan changes nothing and judges everything.
+    found.moved(file, sheet, sheet)?;
+    Ok(Beside::new(file, sheet, found)?.differences())
+}
