@@ -1,11 +1,11 @@
 -- The answers as C reads them, each from the answer's report: document 01's number (0: accepted) and item, then the values, all 0 on a refusal.
-use Prim.Native.Nat.{ℕ, suc, _+_, _-_, _^_, _≤_}
+use Prim.Native.Nat.{ℕ, suc, _+_, _-_, _%_, _^_, _≤_}
 use mathlib.Core.Bool.{Bool, cond}
 use mathlib.Core.List.{List}
 use lib.Dec.{eqb}
 use lib.ListN.{length}
 use lib.IntN.{ℤ, pos, negsuc}
-use Rattle.format.specs.Kind.{flagOf}
+use Rattle.section_kind.specs.Kind.{flagsOf}
 use Rattle.refusal.specs.declared.RangeAnswer.{RangeAnswer}
 use Rattle.refusal.specs.declared.RangeAnswer.the-variants.{Found, Refused}
 use Rattle.refusal.specs.Refusal.{numberOf, itemOf}
@@ -62,7 +62,7 @@ cSection r =
       vaddr = r .section .vaddr .0;
       size = r .section .size;
       scnptr = r .section .scnptr .0;
-      flag = ifAccepted (r .number) (flagOf (r .section .kind));
+      flag = ifAccepted (r .number) (flagsOf (r .section .kind) % 65536);
       raw = oneIf (r .section .raw);
     }
 

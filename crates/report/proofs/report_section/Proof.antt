@@ -15,8 +15,8 @@ item-requires c κs = search needs
 enum-known-a-2 : tie.Need-enum-known-a-2
 enum-known-a-2 c = search needs
 
-flag-of-requires : tie.Need-flag-of-requires
-flag-of-requires c κs = search needs
+flags-requires : tie.Need-flags-requires
+flags-requires c κs = search needs
 
 one-if-requires : tie.Need-one-if-requires
 one-if-requires c κs = search needs
@@ -25,7 +25,7 @@ returns : tie.Need-returns
 returns c = rw (c .before .before .before .a .given .1, c .before .number .ensures, c .item .ensures, number-not-zero _)
 
 returns-2 : tie.Need-returns-2
-returns-2 c = rw (c .before .before .before .before .before .before .a2 .given .1, c .before .flag-of .ensures, c .one-if .ensures)
+returns-2 c = rw (c .before .before .before .before .before .before .a2 .given .1, c .before .flags .ensures, c .one-if .ensures)
 
 pub report-section-spec : {M : Type 1} → statement M
 report-section-spec =
@@ -35,7 +35,7 @@ report-section-spec =
     number-requires
     item-requires
     enum-known-a-2
-    flag-of-requires
+    flags-requires
     one-if-requires
     returns
     returns-2)
