@@ -17,7 +17,7 @@ use Rattle.refusal.proofs.Order.{told, told-accepted, go-on, stop, accepted-fir
 use Rattle.loadable.specs.declared.Loadable.{Loadable}
 use Rattle.loadable.specs.Valid.{Valid}
 use Rattle.history.specs.Plan.{Plan, listCheck, fitCheck, planCheck}
-use Rattle.history.specs.Call.{Call, build, roomCheck, callCheck}
+use Rattle.history.specs.Call.{Call, build, move, roomCheck, callCheck}
 use Rattle.plan.specs.Relocatable.{relocatableOf}
 use Rattle.plan.proofs.Raw.{length-raw-text, length-raw-data}
 use Rattle.plan.proofs.Fit.{list-accepted}
@@ -93,7 +93,7 @@ module _ (file : List ℕ) (l : Loadable) where
   pub move-order : (p q : Plan) (tl dl : ℕ)
       → ((listCheck (relocatableOf file l) p orElse listCheck (relocatableOf file l) q) orElse (fitCheck (relocatableOf file l) p orElse fitCheck (relocatableOf file l) q)
       orElse roomCheck (relocatableOf file l) tl dl)
-      ≡ callCheck (relocatableOf file l) tl dl (Call.move p q)
+      ≡ callCheck (relocatableOf file l) tl dl (move p q)
   unfolding callCheck relocatableOf
   move-order p q tl dl =
       or-assoc (listCheck (relocatableOf file l) p) (listCheck (relocatableOf file l) q) _
@@ -110,7 +110,7 @@ module _ (file : List ℕ) (l : Loadable) where
         (list-accepted file l p (accepted-first _ _ a), r .0, r .1)
 
     -- an accepted move
-    pub move-lengths : (p q : Plan) → callCheck (relocatableOf file l) tl dl (Call.move p q) ≡ Accepted
+    pub move-lengths : (p q : Plan) → callCheck (relocatableOf file l) tl dl (move p q) ≡ Accepted
         → (length (p .list) ≡ l .tables .nsyms) × (length (q .list) ≡ l .tables .nsyms) × (tl ≡ l .layout .parts .text .size) × (dl ≡ l .layout .image)
     move-lengths p q e =
         let a = move-order p q tl dl ∙ e in

@@ -5,7 +5,7 @@ ghost use lib.ListN.{length};
 ghost use Rattle.loadable.specs.Valid.{Valid};
 ghost use Rattle.refusal.specs.Order.{_orElse_};
 ghost use Rattle.history.specs.Plan.{listCheck, fitCheck};
-ghost use Rattle.history.specs.Call.{Call, build, roomCheck, callCheck};
+ghost use Rattle.history.specs.Call.{Call, build, move, roomCheck, callCheck};
 ghost use Rattle.plan.specs.Relocatable.{relocatableOf};
 ghost use Rattle.displacement.specs.Reach.{planOf};
 use displacement::Addresses;
@@ -116,7 +116,7 @@ pub fn check_move(
     data: usize,
 ) -> Verdict
     requires { ⌜ Valid (now file) l ⌝ }
-    ensures { λ r. ⌜ r ≡ callCheck (relocatableOf (now (file .entry)) l) text «data» (Call.move (planOf from (now («from_imports» .entry))) (planOf to (now («to_imports» .entry)))) ⌝ }
+    ensures { λ r. ⌜ r ≡ callCheck (relocatableOf (now (file .entry)) l) text «data» (move (planOf from (now («from_imports» .entry))) (planOf to (now («to_imports» .entry)))) ⌝ }
 {
     let lists = check_lists(file, l, from, from_imports, to, to_imports);
     if refusal::refuses(lists) {

@@ -17,7 +17,7 @@ use Rattle.history.specs.declared.CallAnswer.{CallAnswer}
 use Rattle.history.specs.declared.CallAnswer.the-variants as answer
 use Rattle.history.specs.Images.{Images, applyAll}
 use Rattle.history.specs.Plan.{Relocatable, Plan, planCheck, builtImages, displacements, reachedBy}
-use Rattle.history.specs.Call.{Call, build, planReached, callCheck, accepted, effect, answerOf}
+use Rattle.history.specs.Call.{Call, build, move, planReached, callCheck, accepted, effect, answerOf}
 use Rattle.plan.specs.Relocatable.{relocationsFrom, relocatableOf, noModule, relocatableBy, relocatableAt}
 use Rattle.apply.specs.Shift.{shiftsBy}
 use Rattle.apply.proofs.Exact.{Built, Moved, built-exact, moved-exact}
@@ -54,7 +54,7 @@ module _ (file : List ℕ) (l : Loadable) (v : Valid file l) (d : List ℕ) (x y
   -- the buffers with each entry applied by numbers that stand for the differences are what a move leaves
   pub move-leaves : (p q : Plan) → Moved file l d p q
       → y ≡ applyAll (relocationsFrom file l 0 (l .tables .nreloc)) (shiftsBy file l d true (p .list) (q .list)) x
-      → y ≡ accepted (relocatableOf file l) (Call.move p q) x
+      → y ≡ accepted (relocatableOf file l) (move p q) x
   unfolding accepted
   move-leaves p q h e = e ∙ moved-exact file l d p q h v x
 
@@ -81,7 +81,7 @@ module _ (file : List ℕ) {a : LoadableAnswer} (e : a ≡ loadableAt file) wher
   none-refused : (x : Refusal) (tl dl : ℕ) (c : Call) → callCheck (noModule x) tl dl c ≡ Refused x
   unfolding callCheck planCheck noModule
   none-refused x tl dl (build p) = refl
-  none-refused x tl dl (Call.move p q) = refl
+  none-refused x tl dl (move p q) = refl
 
   -- the module is refused
   pub file-refused : (c : Call) (x : Images) (r : Refusal) → a ≡ loadable.Refused r → Reports c x (answer.Refused r) x
