@@ -13,7 +13,7 @@ use Rattle.refusal.specs.Order.{_orElse_, refuseIf}
 use Rattle.refusal.proofs.Order.{accepted-first, accepted-rest, accepted-equal}
 use Rattle.history.specs.Images.{Images, lengths, All, Inside}
 use Rattle.history.specs.Plan.{Relocatable, Plan, Sound, listCheck, fitCheck, planCheck}
-use Rattle.history.specs.Call.{Call, build, move, roomCheck, callCheck, effect, run, Accepts, machineOf}
+use Rattle.history.specs.Call.{Call, build, move, bufferRoom, roomCheck, callCheck, effect, run, Accepts, machineOf}
 use Rattle.book.proofs.Call.{LengthLaws, effect-lengths, run-lengths}
 use Rattle.history.proofs.Apply.{applyAll-lengths, inside-lengths}
 
@@ -71,19 +71,24 @@ unfolding callCheck
 room-accepted m tl dl (build p) e = accepted-rest (planCheck m p) _ e
 room-accepted m tl dl (move p q) e = move-parts m tl dl p q e .room
 
--- buffers that pass ROOM 0 and 1 have the raw images' lengths
-room-lengths : (m : Relocatable) (x : Images) → roomCheck m (length (x .text)) (length (x .dat)) ≡ Accepted → lengths x ≡ lengths (m .raw)
+-- buffers that pass ROOM 0 and 1 have the images' lengths
+pub buffer-lengths : (t d tl dl : ℕ) → bufferRoom t d tl dl ≡ Accepted → (tl ≡ t) × (dl ≡ d)
+unfolding bufferRoom
+buffer-lengths t d tl dl e = (
+  accepted-equal tl t (refusal.Room TextBuffer) (accepted-first _ _ e),
+  accepted-equal dl d (refusal.Room DataBuffer) (accepted-rest (refuseIf (not (eqb tl t)) (refusal.Room TextBuffer)) _ e),
+)
+
+-- those of a module the raw images'
+pub room-lengths : (m : Relocatable) (tl dl : ℕ) → roomCheck m tl dl ≡ Accepted → (tl ≡ length (m .raw .text)) × (dl ≡ length (m .raw .dat))
 unfolding roomCheck
-room-lengths m x e =
-    ap₂ (λ (t d : ℕ). (t, d)) (accepted-equal _ _ (refusal.Room TextBuffer) (accepted-first _ _ e))
-    (accepted-equal _ _ (refusal.Room DataBuffer)
-    (accepted-rest (refuseIf (not (eqb (length (x .text)) (length (m .raw .text)))) (refusal.Room TextBuffer)) _ e))
+room-lengths m tl dl e = buffer-lengths (length (m .raw .text)) (length (m .raw .dat)) tl dl e
 
 -- a module meets what keeping lengths asks
 pub module-lengths : (m : Relocatable) → LengthLaws (machineOf m)
 module-lengths m =
     record {
-      room = λ x c e. room-lengths m x (room-accepted m (length (x .text)) (length (x .dat)) c e);
+      room = λ x c e. let r = room-lengths m _ _ (room-accepted m (length (x .text)) (length (x .dat)) c e) in ap₂ (λ (t d : ℕ). (t, d)) (r .0) (r .1);
       keeps = λ s x. applyAll-lengths (m .entries) s x;
     }
 

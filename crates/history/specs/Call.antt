@@ -27,10 +27,13 @@ abbrev pub planReached : Call → Plan
 planReached (build p) = p
 planReached (move p q) = q
 
--- ROOM 0, 1: of the buffers only the lengths count
+-- ROOM 0, 1: buffers of tl and dl bytes for images of t and d
+unfoldable pub bufferRoom : ℕ → ℕ → ℕ → ℕ → Verdict
+bufferRoom t d tl dl = refuseIf (not (eqb tl t)) (refusal.Room TextBuffer) orElse refuseIf (not (eqb dl d)) (refusal.Room DataBuffer)
+
+-- of the buffers only the lengths count
 unfoldable pub roomCheck : Relocatable → ℕ → ℕ → Verdict
-roomCheck m tl dl =
-    refuseIf (not (eqb tl (length (m .raw .text)))) (refusal.Room TextBuffer) orElse refuseIf (not (eqb dl (length (m .raw .dat)))) (refusal.Room DataBuffer)
+roomCheck m tl dl = bufferRoom (length (m .raw .text)) (length (m .raw .dat)) tl dl
 
 -- for a move both lists, then the from plan, then the to plan
 unfoldable pub callCheck : Relocatable → ℕ → ℕ → Call → Verdict

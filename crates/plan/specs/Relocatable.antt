@@ -7,7 +7,8 @@ use lib.ListN.{replicate}
 use Rattle.format.specs.declared.FileOffset.{FileOffset}
 use Rattle.format.specs.declared.Format.{Format}
 use Rattle.format.specs.declared.SectionNumber.{SectionNumber}
-use Rattle.format.specs.Layout.{addressLimit, loaderSymbolLength}
+use Rattle.format.specs.declared.Format.the-variants.{Xcoff32}
+use Rattle.format.specs.Layout.{loaderSymbolLength}
 use Rattle.format.specs.Range.{range, bytesOf}
 use Rattle.refusal.specs.declared.Refusal.{Refusal}
 use Rattle.refusal.specs.declared.Verdict.the-variants as verdict
@@ -84,14 +85,14 @@ relocatableOf file l =
       raw = images (rawText file (l .layout)) (rawData file (l .layout));
       textAddress = l .layout .parts .text .address .0;
       dataAddress = l .layout .parts .«data» .address .0;
-      limit = addressLimit (l .layout .format);
+      format = l .layout .format;
       symbols = symbolsFrom file l 0 (l .tables .nsyms);
       entries = relocationsFrom file l 0 (l .tables .nreloc);
       entry = anchored (l .layout .parts) (l .layout .entry);
       toc = anchored (l .layout .parts) (l .layout .toc);
     }
 
--- a refused file: nothing to apply, and every call is refused by its verdict
+-- a refused file: nothing to apply, and every call is refused by its verdict, whatever the format
 unfoldable pub noModule : Refusal → Relocatable
 noModule x =
     record {
@@ -99,7 +100,7 @@ noModule x =
       raw = images [] [];
       textAddress = 0;
       dataAddress = 0;
-      limit = 0;
+      format = Xcoff32;
       symbols = [];
       entries = [];
       entry = record { follows = followed.Nothing; address = 0 };
