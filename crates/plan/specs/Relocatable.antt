@@ -27,6 +27,7 @@ use Rattle.history.specs.declared.Followed.the-variants as followed
 use Rattle.history.specs.declared.Relocation.{Relocation}
 use Rattle.history.specs.Images.{Images, images}
 use Rattle.history.specs.Plan.{Anchored, Relocatable}
+use Rattle.history.specs.Plan.Anchored.{none, inText, inData}
 
 -- which address the loader symbol with place k in the table follows: an import its own, a deferred import (file id 0) none, any other its section's,
 -- bss following data
@@ -71,12 +72,8 @@ rawData file m =
     bytesOf file (range (m .parts .«data» .start .0) (m .parts .«data» .size)) ++ replicate (m .image - m .parts .«data» .size) 0
 
 -- the entry point or the TOC anchor: section 0 means that there is none
-unfoldable pub anchorFollows : Parts → Anchor → Followed
-anchorFollows p a =
-    cond (eqb (a .section .0) 0) followed.Nothing (cond (eqb (a .section .0) (p .text .number .0)) followed.Text followed.Data)
-
-abbrev pub anchored : Parts → Anchor → Anchored
-anchored p a = record { follows = anchorFollows p a; address = a .address .0 }
+unfoldable pub anchored : Parts → Anchor → Anchored
+anchored p a = cond (eqb (a .section .0) 0) none (cond (eqb (a .section .0) (p .text .number .0)) (inText (a .address .0)) (inData (a .address .0)))
 
 unfoldable pub relocatableOf : List ℕ → Loadable → Relocatable
 relocatableOf file l =
@@ -103,8 +100,8 @@ noModule x =
       format = Xcoff32;
       symbols = [];
       entries = [];
-      entry = record { follows = followed.Nothing; address = 0 };
-      toc = record { follows = followed.Nothing; address = 0 };
+      entry = none;
+      toc = none;
     }
 
 unfoldable pub relocatableBy : List ℕ → LoadableAnswer → Relocatable
