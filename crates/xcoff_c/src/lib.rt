@@ -12,7 +12,7 @@ ghost use Rattle.import_id.specs.Import.{importAt};
 ghost use lib.ListN.{length};
 ghost use Rattle.sheet.specs.Sheet.{headAnswer, readAnswer, readList, writeCheck, writeSheet, reportOfSheet};
 ghost use Rattle.history.specs.Images.{images};
-ghost use Rattle.history.specs.Call.{Call, build, answerOf, effect};
+ghost use Rattle.history.specs.Call.{Call, build, move, answerOf, effect};
 ghost use Rattle.history.specs.Book.{bookImages, bookAfter};
 ghost use Rattle.plan.specs.Relocatable.{relocatableAt};
 ghost use Rattle.image.specs.Report.{reportOfCall};
@@ -217,8 +217,8 @@ pub extern "C" fn xcoff_move(
     text: &mut [u8],
     data: &mut [u8],
 ) -> CCall
-    ensures answer { λ r. ⌜ r ≡ cCall (reportOfCall (answerOf (relocatableAt (now (file .entry))) (length (now (text .entry))) (length (now («data» .entry))) (Call.move (record { text = at; dat = dataat; list = now (list .entry) }) (record { text = toat; dat = todataat; list = now (tolist .entry) })))) ⌝ }
-    ensures images { λ _. ⌜ images (now (text .exit)) (now («data» .exit)) ≡ effect (relocatableAt (now (file .entry))) (Call.move (record { text = at; dat = dataat; list = now (list .entry) }) (record { text = toat; dat = todataat; list = now (tolist .entry) })) (images (now (text .entry)) (now («data» .entry))) ⌝ }
+    ensures answer { λ r. ⌜ r ≡ cCall (reportOfCall (answerOf (relocatableAt (now (file .entry))) (length (now (text .entry))) (length (now («data» .entry))) (move (record { text = at; dat = dataat; list = now (list .entry) }) (record { text = toat; dat = todataat; list = now (tolist .entry) })))) ⌝ }
+    ensures images { λ _. ⌜ images (now (text .exit)) (now («data» .exit)) ≡ effect (relocatableAt (now (file .entry))) (move (record { text = at; dat = dataat; list = now (list .entry) }) (record { text = toat; dat = todataat; list = now (tolist .entry) })) (images (now (text .entry)) (now («data» .entry))) ⌝ }
 {
     let from = Addresses {
         text: VirtualAddress(at),
