@@ -6,7 +6,7 @@ ghost use Rattle.format.specs.Kind.{kindOf, lowKind, flagOf, hasRawKind,
 ghost use Rattle.word.specs.Number.{bytesIn};
 ghost use Rattle.format.specs.Name.{nameField};
 ghost use Rattle.format.specs.Range.{textIn};
-ghost use Rattle.format.specs.Layout.{formatOf, headerLayout, sectionLayout, auxLayout, auxNumbers, symbolLayout, loaderLayout, relocationLayout, addressLimit};
+ghost use Rattle.format.specs.Layout.{formatOf, headerLayout, sectionLayout, auxLayout, auxNumbers, symbolLayout, loaderLayout, relocationLayout, addressLimit, bitsOf};
 use word::Field;
 
 // What is above a limit is refused.
@@ -408,6 +408,16 @@ pub fn kind_of(flags: u64) -> KindAnswer
         return KindAnswer::NotAllowed;
     }
     low_kind(low)
+}
+
+// How many bits an address has.
+pub fn bits_of(f: Format) -> u64
+    ensures { λ r. ⌜ r ≡ bitsOf f ⌝ }
+{
+    match f {
+        Format::Xcoff32 => 32,
+        Format::Xcoff64 => 64,
+    }
 }
 
 // The low 16 bits of the flags of a kind; all ones for a deleted section.

@@ -12,7 +12,18 @@ use displacement::Addresses;
 use history::CallAnswer;
 use loadable::Loadable;
 use loadable::LoadableAnswer;
+use refusal::Head;
 use refusal::Verdict;
+
+// The entry and TOC addresses in the plan that the call reached; `hasentry` and `hastoc` are 1 where there is one.
+#[repr(C)]
+pub struct CallReport {
+    pub head: Head,
+    pub hasentry: u64,
+    pub entry: u64,
+    pub hastoc: u64,
+    pub toc: u64,
+}
 
 // ---- builds and moves
 
@@ -122,5 +133,30 @@ pub fn move_images(
             text,
             data,
         ),
+    }
+}
+
+pub fn report_call(a: CallAnswer) -> CallReport
+    ensures { λ r. ⌜ r ≡ reportOfCall a ⌝ }
+{
+    match a {
+        CallAnswer::Done(r) => {
+            let entry = r.entry;
+            let toc = r.toc;
+            CallReport {
+                head: refusal::report_head(Verdict::Accepted),
+                hasentry: displacement::is_present(entry),
+                entry: displacement::address_of(entry),
+                hastoc: displacement::is_present(toc),
+                toc: displacement::address_of(toc),
+            }
+        }
+        CallAnswer::Refused(x) => CallReport {
+            head: refusal::report_head(Verdict::Refused(x)),
+            hasentry: 0,
+            entry: 0,
+            hastoc: 0,
+            toc: 0,
+        },
     }
 }
