@@ -150,8 +150,9 @@ fn source(krate: &str) -> Option<String> {
         .collect()
 }
 
-/// The function, type or constant that a line of code declares.
+/// The function, type or constant that a line of code declares, a type's own included.
 fn coded(line: &str) -> Option<&str> {
+    let line = line.trim_start();
     let line = line.strip_prefix("pub ").unwrap_or(line);
     let line = line.strip_prefix("extern \"C\" ").unwrap_or(line);
     let kinds = ["fn ", "struct ", "enum ", "const "];

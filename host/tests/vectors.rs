@@ -450,3 +450,9 @@ fn every_recorded_case_of_request_2_is_answered_as_recorded() {
         (142, 162)
     );
 }
+
+#[test]
+fn every_recorded_case_of_request_3_is_answered_as_recorded() {
+    let counts = check("cases-03.txt");
+    assert_eq!(counts.values().sum::<u64>(), 600);
+}

@@ -7,9 +7,9 @@ use lib.IntN.{pos, negℤ}
 use Rattle.update.specs.Update.{addField}
 use Rattle.update.proofs.Figures as update
 use Rattle.format.specs.declared.Format.the-variants.{Xcoff64, Xcoff32}
-use Rattle.format.specs.declared.KindAnswer.the-variants.{Allowed}
-use Rattle.format.specs.declared.SectionKind.the-variants.{Dwarf}
-use Rattle.format.specs.Kind.{kindOf}
+use Rattle.section_kind.specs.declared.KindAnswer.the-variants.{Allowed}
+use Rattle.section_kind.specs.declared.SectionKind.the-variants.{Dwarf}
+use Rattle.section_kind.specs.Kind.{kindOf}
 use Rattle.format.specs.Range.{range}
 use Rattle.section.specs.declared.SectionHeader.{SectionHeader}
 use Rattle.section.specs.declared.SectionAnswer.the-variants as section-answer

@@ -6,7 +6,7 @@ use lib.Dec.{eqb, ltb}
 use lib.ListN.{length, set, replicate}
 use Rattle.word.specs.Number.{fieldAt}
 use Rattle.word.specs.Test.{past}
-use Rattle.format.specs.declared.SectionKind.the-variants.{Deleted}
+use Rattle.section_kind.specs.declared.SectionKind.the-variants.{Deleted}
 use Rattle.format.specs.Limit.{sectionLimit}
 use Rattle.format.specs.Layout.{symbolLength}
 use Rattle.format.specs.Range.{range}

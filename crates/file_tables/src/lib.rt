@@ -8,7 +8,7 @@ ghost use Rattle.file_tables.specs.Tables.{blankSection, judgedAt, refus
 use file_header::FileHeader;
 use format::FileOffset;
 use format::FileRange;
-use format::SectionKind;
+use section_kind::SectionKind;
 use format::SectionNumber;
 use format::VirtualAddress;
 use refusal::BoundsItem;

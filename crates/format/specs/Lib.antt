@@ -2,5 +2,4 @@
 pub mod Limit
 pub mod Layout
 pub mod Name
-pub mod Kind
 pub mod Range

@@ -2,7 +2,6 @@
 ghost use mathlib.Core.Path.{_≡_};
 ghost use Prim.Native.Nat.{_+_, _≤_};
 ghost use lib.ListN.{length};
-ghost use Rattle.format.specs.Kind.{kindOf, lowKind, flagOf, hasRawKind, isPlacedKind};
 ghost use Rattle.word.specs.Number.{bytesIn};
 ghost use Rattle.format.specs.Name.{nameField};
 ghost use Rattle.format.specs.Range.{textIn};
@@ -130,28 +129,6 @@ pub struct RelocationLayout {
     pub address: Field,
     pub symbol: Field,
     pub length: u64,
-}
-
-pub enum SectionKind {
-    Deleted,
-    Pad,
-    Dwarf,
-    Text,
-    Data,
-    Bss,
-    Except,
-    Info,
-    Tdata,
-    Tbss,
-    Loader,
-    Debug,
-    Typchk,
-    Ovrflo,
-}
-
-pub enum KindAnswer {
-    Allowed(SectionKind),
-    NotAllowed,
 }
 
 // The format that a magic number names.
@@ -371,45 +348,6 @@ pub fn text_in(file: &[u8], base: usize, f: Field) -> FileRange
     }
 }
 
-fn low_kind(low: u64) -> KindAnswer
-    ensures { λ r. ⌜ r ≡ lowKind low ⌝ }
-{
-    match low {
-        0x0008 => KindAnswer::Allowed(SectionKind::Pad),
-        0x0010 => KindAnswer::Allowed(SectionKind::Dwarf),
-        0x0020 => KindAnswer::Allowed(SectionKind::Text),
-        0x0040 => KindAnswer::Allowed(SectionKind::Data),
-        0x0080 => KindAnswer::Allowed(SectionKind::Bss),
-        0x0100 => KindAnswer::Allowed(SectionKind::Except),
-        0x0200 => KindAnswer::Allowed(SectionKind::Info),
-        0x0400 => KindAnswer::Allowed(SectionKind::Tdata),
-        0x0800 => KindAnswer::Allowed(SectionKind::Tbss),
-        0x1000 => KindAnswer::Allowed(SectionKind::Loader),
-        0x2000 => KindAnswer::Allowed(SectionKind::Debug),
-        0x4000 => KindAnswer::Allowed(SectionKind::Typchk),
-        0x8000 => KindAnswer::Allowed(SectionKind::Ovrflo),
-        _ => KindAnswer::NotAllowed,
-    }
-}
-
-// The kind that a section header's flags name.
-pub fn kind_of(flags: u64) -> KindAnswer
-    ensures { λ r. ⌜ r ≡ kindOf flags ⌝ }
-{
-    if flags == 0xFFFF_FFFF {
-        return KindAnswer::Allowed(SectionKind::Deleted);
-    }
-    let low = flags % 65536;
-    if low == 0x0010 {
-        return KindAnswer::Allowed(SectionKind::Dwarf);
-    }
-    let high = flags / 65536;
-    if high != 0 {
-        return KindAnswer::NotAllowed;
-    }
-    low_kind(low)
-}
-
 // How many bits an address has.
 pub fn bits_of(f: Format) -> u64
     ensures { λ r. ⌜ r ≡ bitsOf f ⌝ }
@@ -417,71 +355,5 @@ pub fn bits_of(f: Format) -> u64
     match f {
         Format::Xcoff32 => 32,
         Format::Xcoff64 => 64,
-    }
-}
-
-// The low 16 bits of the flags of a kind; all ones for a deleted section.
-pub fn flag_of(k: SectionKind) -> u64
-    ensures { λ r. ⌜ r ≡ flagOf k ⌝ }
-{
-    match k {
-        SectionKind::Deleted => 0xFFFF,
-        SectionKind::Pad => 0x0008,
-        SectionKind::Dwarf => 0x0010,
-        SectionKind::Text => 0x0020,
-        SectionKind::Data => 0x0040,
-        SectionKind::Bss => 0x0080,
-        SectionKind::Except => 0x0100,
-        SectionKind::Info => 0x0200,
-        SectionKind::Tdata => 0x0400,
-        SectionKind::Tbss => 0x0800,
-        SectionKind::Loader => 0x1000,
-        SectionKind::Debug => 0x2000,
-        SectionKind::Typchk => 0x4000,
-        SectionKind::Ovrflo => 0x8000,
-    }
-}
-
-// Whether sections of this kind may have raw data in the file.
-pub fn has_raw_kind(k: SectionKind) -> bool
-    ensures { λ r. ⌜ r ≡ hasRawKind k ⌝ }
-{
-    match k {
-        SectionKind::Deleted => false,
-        SectionKind::Pad => true,
-        SectionKind::Dwarf => true,
-        SectionKind::Text => true,
-        SectionKind::Data => true,
-        SectionKind::Bss => false,
-        SectionKind::Except => true,
-        SectionKind::Info => true,
-        SectionKind::Tdata => true,
-        SectionKind::Tbss => false,
-        SectionKind::Loader => true,
-        SectionKind::Debug => true,
-        SectionKind::Typchk => true,
-        SectionKind::Ovrflo => false,
-    }
-}
-
-// Whether the addresses of sections of this kind are examined.
-pub fn is_placed_kind(k: SectionKind) -> bool
-    ensures { λ r. ⌜ r ≡ isPlacedKind k ⌝ }
-{
-    match k {
-        SectionKind::Deleted => false,
-        SectionKind::Pad => false,
-        SectionKind::Dwarf => false,
-        SectionKind::Text => true,
-        SectionKind::Data => true,
-        SectionKind::Bss => true,
-        SectionKind::Except => false,
-        SectionKind::Info => false,
-        SectionKind::Tdata => false,
-        SectionKind::Tbss => false,
-        SectionKind::Loader => false,
-        SectionKind::Debug => false,
-        SectionKind::Typchk => false,
-        SectionKind::Ovrflo => false,
     }
 }

@@ -7,8 +7,8 @@ use lib.ListN.{set, replicate}
 use Rattle.word.specs.Number.{valueOf, fieldAt}
 use Rattle.word.specs.Test.{past}
 use Rattle.format.specs.declared.Format.the-variants.{Xcoff32}
-use Rattle.format.specs.declared.SectionKind.the-variants.{Text}
-use Rattle.format.specs.Kind.{lowKind, kindOf}
+use Rattle.section_kind.specs.declared.SectionKind.the-variants.{Text}
+use Rattle.section_kind.specs.Kind.{listedKind, kindOf}
 use Rattle.format.specs.Layout.{formatOf}
 use Rattle.refusal.specs.declared.Verdict.the-variants.{Accepted}
 use Rattle.refusal.specs.Order.{firstOf}
@@ -47,5 +47,5 @@ pub example-opens : openOf example ≡ record {
     flags = 0;
   };
 }
-unfolding example valueOf fieldAt past lowKind kindOf formatOf firstOf sectionHeaderAt hasRawData rawDataPast misplaced sectionOf judgeKind judgeSection headerAt sectionStart headerCheck blankSections judgedAt sectionsCheck sectionsOf symbolsCheck symbolTable openedBy summaryWith openAs openBy openOf
+unfolding example valueOf fieldAt past listedKind kindOf formatOf firstOf sectionHeaderAt hasRawData rawDataPast misplaced sectionOf judgeKind judgeSection headerAt sectionStart headerCheck blankSections judgedAt sectionsCheck sectionsOf symbolsCheck symbolTable openedBy summaryWith openAs openBy openOf
 example-opens = refl

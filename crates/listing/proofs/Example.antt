@@ -5,7 +5,7 @@ use Prim.Native.Nat.{ℕ}
 use lib.ListN.{replicate}
 use Rattle.word.specs.Number.{valueOf, fieldAt}
 use Rattle.word.specs.Test.{past}
-use Rattle.format.specs.Kind.{lowKind, kindOf}
+use Rattle.section_kind.specs.Kind.{listedKind, kindOf}
 use Rattle.format.specs.Layout.{formatOf}
 use Rattle.refusal.specs.Order.{firstOf}
 use Rattle.section.specs.Section.{sectionHeaderAt, hasRawData, rawDataPast, misplaced, sectionOf, judgeKind, judgeSection}
@@ -31,5 +31,5 @@ exampleText =
     ++ (49 ∷ 32 ∷ 116 ∷ 101 ∷ 120 ∷ 116 ∷ 32 ∷ 49 ∷ 48 ∷ 48 ∷ 48 ∷ 48 ∷ 48 ∷ 48 ∷ 48 ∷ 32 ∷ 52 ∷ 10 ∷ [])
 
 pub example-listed : (a b c d : ℕ) → listing (exampleFile a b c d) ≡ exampleText
-unfolding valueOf fieldAt past lowKind kindOf formatOf firstOf sectionHeaderAt hasRawData rawDataPast misplaced sectionOf judgeKind judgeSection headerAt sectionStart headerCheck blankSections judgedAt sectionsCheck sectionsOf symbolsCheck symbolTable summaryWith openedBy openAs openBy openOf digitOf digits placesIn places decimal hex fileLine sectionLine sectionLines summaryText listing
+unfolding valueOf fieldAt past listedKind kindOf formatOf firstOf sectionHeaderAt hasRawData rawDataPast misplaced sectionOf judgeKind judgeSection headerAt sectionStart headerCheck blankSections judgedAt sectionsCheck sectionsOf symbolsCheck symbolTable summaryWith openedBy openAs openBy openOf digitOf digits placesIn places decimal hex fileLine sectionLine sectionLines summaryText listing
 example-listed a b c d = refl

@@ -5,8 +5,7 @@ use mathlib.Core.List.{List, [], _∷_, _++_}
 use lib.ListN.{length, take}
 use Rattle.format.specs.declared.Format.{Format}
 use Rattle.format.specs.declared.Format.the-variants.{Xcoff32, Xcoff64}
-use Rattle.format.specs.declared.SectionKind.{SectionKind}
-use Rattle.format.specs.declared.SectionKind.the-variants.{Pad, Dwarf, Text, Data, Bss, Except, Info, Tdata, Tbss, Loader, Debug, Typchk, Ovrflo, Deleted}
+use Rattle.section_kind.specs.Kind.{kindWord}
 use Rattle.refusal.specs.declared.Refusal.{Refusal}
 use Rattle.refusal.specs.Refusal.{numberOf, itemOf}
 use Rattle.section.specs.declared.Section.{Section}
@@ -30,23 +29,6 @@ formatWord Xcoff64 = 88 ∷ 67 ∷ 79 ∷ 70 ∷ 70 ∷ 54 ∷ 52 ∷ []
 abbrev pub addressDigits : Format → ℕ
 addressDigits Xcoff32 = 8
 addressDigits Xcoff64 = 16
-
--- the kind as document 01 writes it
-abbrev pub kindWord : SectionKind → List ℕ
-kindWord Pad = 112 ∷ 97 ∷ 100 ∷ []
-kindWord Dwarf = 100 ∷ 119 ∷ 97 ∷ 114 ∷ 102 ∷ []
-kindWord Text = 116 ∷ 101 ∷ 120 ∷ 116 ∷ []
-kindWord Data = 100 ∷ 97 ∷ 116 ∷ 97 ∷ []
-kindWord Bss = 98 ∷ 115 ∷ 115 ∷ []
-kindWord Except = 101 ∷ 120 ∷ 99 ∷ 101 ∷ 112 ∷ 116 ∷ []
-kindWord Info = 105 ∷ 110 ∷ 102 ∷ 111 ∷ []
-kindWord Tdata = 116 ∷ 100 ∷ 97 ∷ 116 ∷ 97 ∷ []
-kindWord Tbss = 116 ∷ 98 ∷ 115 ∷ 115 ∷ []
-kindWord Loader = 108 ∷ 111 ∷ 97 ∷ 100 ∷ 101 ∷ 114 ∷ []
-kindWord Debug = 100 ∷ 101 ∷ 98 ∷ 117 ∷ 103 ∷ []
-kindWord Typchk = 116 ∷ 121 ∷ 112 ∷ 99 ∷ 104 ∷ 107 ∷ []
-kindWord Ovrflo = 111 ∷ 118 ∷ 114 ∷ 102 ∷ 108 ∷ 111 ∷ []
-kindWord Deleted = 100 ∷ 101 ∷ 108 ∷ 101 ∷ 116 ∷ 101 ∷ 100 ∷ []
 
 -- refused
 abbrev pub refusedWord : List ℕ

@@ -4,9 +4,8 @@ ghost use Prim.Native.Nat.{_+_, _≤_, _<_};
 ghost use lib.ListN.{length, take};
 ghost use lib.Seq.{sets};
 ghost use Rattle.text.specs.Text.{hex};
-ghost use Rattle.listing.specs.Listing.{addressDigits, formatWord, kindWord, fileLine, sectionLine, sectionLines, refusalLine, summaryText, listing, Counts};
+ghost use Rattle.listing.specs.Listing.{addressDigits, formatWord, fileLine, sectionLine, sectionLines, refusalLine, summaryText, listing, Counts};
 use format::Format;
-use format::SectionKind;
 use format::VirtualAddress;
 use header::Summary;
 use refusal::Refusal;
@@ -21,30 +20,6 @@ fn put_format(out: &mut [u8; 2048], f: Format) -> usize
     match f {
         Format::Xcoff32 => text::put_bytes(out, 0, b"XCOFF32"),
         Format::Xcoff64 => text::put_bytes(out, 0, b"XCOFF64"),
-    }
-}
-
-fn put_kind(out: &mut [u8; 2048], at: usize, k: SectionKind) -> usize
-    requires { ⌜ at + 7 ≤ 2048 ⌝ }
-    ensures next { λ r. ⌜ r ≡ at + length (kindWord k) ⌝ }
-    ensures text { λ _. ⌜ now (out .exit) ≡ sets (now (out .entry)) at (kindWord k) ⌝ }
-    ensures short { λ r. ⌜ r ≤ at + 7 ⌝ }
-{
-    match k {
-        SectionKind::Pad => text::put_bytes(out, at, b"pad"),
-        SectionKind::Dwarf => text::put_bytes(out, at, b"dwarf"),
-        SectionKind::Text => text::put_bytes(out, at, b"text"),
-        SectionKind::Data => text::put_bytes(out, at, b"data"),
-        SectionKind::Bss => text::put_bytes(out, at, b"bss"),
-        SectionKind::Except => text::put_bytes(out, at, b"except"),
-        SectionKind::Info => text::put_bytes(out, at, b"info"),
-        SectionKind::Tdata => text::put_bytes(out, at, b"tdata"),
-        SectionKind::Tbss => text::put_bytes(out, at, b"tbss"),
-        SectionKind::Loader => text::put_bytes(out, at, b"loader"),
-        SectionKind::Debug => text::put_bytes(out, at, b"debug"),
-        SectionKind::Typchk => text::put_bytes(out, at, b"typchk"),
-        SectionKind::Ovrflo => text::put_bytes(out, at, b"ovrflo"),
-        SectionKind::Deleted => text::put_bytes(out, at, b"deleted"),
     }
 }
 
@@ -71,7 +46,7 @@ fn put_section_line(out: &mut [u8; 2048], at: usize, f: Format, n: u64, s: Secti
     let address = s.paddr;
     let at = text::put_decimal(out, at, n);
     let at = text::put_byte(out, at, b' ');
-    let at = put_kind(out, at, kind);
+    let at = kind.put_word(out, at);
     let at = text::put_byte(out, at, b' ');
     let at = put_address(out, at, f, address);
     let at = text::put_byte(out, at, b' ');

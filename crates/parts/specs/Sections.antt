@@ -4,7 +4,7 @@ use mathlib.Core.Bool.{Bool, cond, _&&_, _||_}
 use mathlib.Core.List.{List}
 use lib.Dec.{eqb}
 use lib.ListN.{getD}
-use Rattle.format.specs.Kind.{flagOf}
+use Rattle.section_kind.specs.Kind.{flagsOf}
 use Rattle.refusal.specs.declared.Refusal.the-variants.{Thread}
 use Rattle.refusal.specs.declared.ThreadItem.the-variants.{ThreadSection}
 use Rattle.refusal.specs.declared.Verdict.{Verdict}
@@ -16,11 +16,11 @@ use Rattle.parts.specs.declared.Tally.{Tally}
 use Rattle.parts.specs.declared.Tallies.{Tallies}
 use Rattle.parts.specs.declared.Part.{Part}
 use Rattle.parts.specs.declared.Parts.{Parts}
-use Rattle.format.specs.declared.SectionKind.the-variants.{Text, Data, Bss, Loader, Tdata, Tbss}
+use Rattle.section_kind.specs.declared.SectionKind.the-variants.{Text, Data, Bss, Loader, Tdata, Tbss}
 
 -- the flag of the kind of the section with index i
 abbrev pub flagAt : List Section → ℕ → ℕ
-flagAt sections i = flagOf (getD sections i blankSection .kind)
+flagAt sections i = flagsOf (getD sections i blankSection .kind)
 
 -- how many of the first n sections are of a kind, and the number of the last of them
 unfoldable pub tally : List Section → ℕ → ℕ → Tally
@@ -33,7 +33,7 @@ tallyOf y flag = tally (y .sections) flag (y .count)
 
 -- of each kind that a module has one of
 unfoldable pub talliesOf : Summary → Tallies
-talliesOf y = record { text = tallyOf y (flagOf Text); «data» = tallyOf y (flagOf Data); bss = tallyOf y (flagOf Bss); loader = tallyOf y (flagOf Loader) }
+talliesOf y = record { text = tallyOf y (flagsOf Text); «data» = tallyOf y (flagsOf Data); bss = tallyOf y (flagsOf Bss); loader = tallyOf y (flagsOf Loader) }
 
 -- exactly one each of text, data, bss and loader
 unfoldable pub oneEach : Tallies → Bool
@@ -49,16 +49,16 @@ partAt sections n =
 unfoldable pub partsOf : Summary → Parts
 partsOf y =
     record {
-      text = partAt (y .sections) (tallyOf y (flagOf Text) .last);
-      «data» = partAt (y .sections) (tallyOf y (flagOf Data) .last);
-      bss = partAt (y .sections) (tallyOf y (flagOf Bss) .last);
-      loader = partAt (y .sections) (tallyOf y (flagOf Loader) .last);
+      text = partAt (y .sections) (tallyOf y (flagsOf Text) .last);
+      «data» = partAt (y .sections) (tallyOf y (flagsOf Data) .last);
+      bss = partAt (y .sections) (tallyOf y (flagsOf Bss) .last);
+      loader = partAt (y .sections) (tallyOf y (flagsOf Loader) .last);
     }
 
 -- THREAD: a tdata or tbss section
 unfoldable pub threadAt : List Section → ℕ → Verdict
 threadAt sections i =
-    refuseIf (eqb (flagAt sections i) (flagOf Tdata) || eqb (flagAt sections i) (flagOf Tbss)) (Thread (ThreadSection (record { 0 = i + 1 })))
+    refuseIf (eqb (flagAt sections i) (flagsOf Tdata) || eqb (flagAt sections i) (flagsOf Tbss)) (Thread (ThreadSection (record { 0 = i + 1 })))
 
 -- the lowest-numbered one
 unfoldable pub threadCheck : Summary → Verdict

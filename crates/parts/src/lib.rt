@@ -14,6 +14,7 @@ use refusal::Refusal;
 use refusal::ThreadItem;
 use refusal::Verdict;
 use section::Section;
+use section_kind::SectionKind;
 
 // How many sections are of a kind, and the number of the last of them.
 pub struct Tally {
@@ -60,7 +61,7 @@ fn tally_kind(sections: [Section; 32], flag: u64, count: u64) -> Tally
     while i < count {
         let s = sections[i as usize];
         let k = s.kind;
-        t = tally_step(t, format::flag_of(k) == flag, i);
+        t = tally_step(t, k.flags() == flag, i);
         i += 1;
     }
     t
@@ -98,10 +99,10 @@ pub fn tally_all(y: Summary) -> Tallies
     let sections = y.sections;
     let count = y.count;
     Tallies {
-        text: tally_kind(sections, 0x0020, count),
-        data: tally_kind(sections, 0x0040, count),
-        bss: tally_kind(sections, 0x0080, count),
-        loader: tally_kind(sections, 0x1000, count),
+        text: tally_kind(sections, SectionKind::TEXT, count),
+        data: tally_kind(sections, SectionKind::DATA, count),
+        bss: tally_kind(sections, SectionKind::BSS, count),
+        loader: tally_kind(sections, SectionKind::LOADER, count),
     }
 }
 
@@ -144,10 +145,10 @@ pub fn find_parts(y: Summary, t: Tallies) -> Parts
 fn is_thread(k: u64) -> bool
     ensures { λ r. ⌜ r ≡ (eqb k 0x0400 || eqb k 0x0800) ⌝ }
 {
-    if k == 0x0400 {
+    if k == SectionKind::TDATA {
         return true;
     }
-    k == 0x0800
+    k == SectionKind::TBSS
 }
 
 // THREAD with the first tdata or tbss section.
@@ -159,7 +160,7 @@ pub fn check_thread(sections: [Section; 32], count: u64) -> Verdict
     while i < count {
         let s = sections[i as usize];
         let k = s.kind;
-        if is_thread(format::flag_of(k)) {
+        if is_thread(k.flags()) {
             return Verdict::Refused(Refusal::Thread(ThreadItem::ThreadSection(SectionNumber(
                 i + 1,
             ))));

@@ -2,10 +2,10 @@
 use Prim.Native.Nat.{ℕ}
 use mathlib.Core.Path.{_≡_, refl}
 use Rattle.format.specs.declared.Format.{Format}
-use Rattle.format.specs.declared.KindAnswer.the-variants.{Allowed}
-use Rattle.format.specs.declared.SectionKind.the-variants.{Dwarf}
+use Rattle.section_kind.specs.declared.KindAnswer.the-variants.{Allowed}
+use Rattle.section_kind.specs.declared.SectionKind.the-variants.{Dwarf}
 use Rattle.format.specs.declared.SectionNumber.{SectionNumber}
-use Rattle.format.specs.Kind.{kindOf, lowKind}
+use Rattle.section_kind.specs.Kind.{kindOf, listedKind}
 use Rattle.refusal.specs.declared.Refusal.the-variants.{Kind}
 use Rattle.section.specs.declared.SectionHeader.{SectionHeader}
 use Rattle.section.specs.declared.SectionAnswer.the-variants.{Refused}
@@ -14,5 +14,5 @@ use Rattle.section.specs.Section.{judgeKind, judgeSection}
 -- P9: flags 00000060 are KIND; 00020010 are dwarf; 00010020 are KIND, whatever else the header holds
 pub p9 : (f : Format) (len : ℕ) (h : SectionHeader) (n : SectionNumber)
     → (h .flags ≡ 0x00000060 → judgeSection f len h n ≡ Refused (Kind n)) × (kindOf 0x00020010 ≡ Allowed Dwarf) × (h .flags ≡ 0x00010020 → judgeSection f len h n ≡ Refused (Kind n))
-unfolding judgeSection judgeKind kindOf lowKind
+unfolding judgeSection judgeKind kindOf listedKind
 p9 f len h n = (λ e. rw e refl, refl, λ e. rw e refl)

@@ -7,11 +7,11 @@ use borrow.Author.Tests.{eqb-true, not-false}
 use Rattle.word.proofs.Test.{either, past-not, or-first, or-second}
 use Rattle.format.specs.declared.Format.{Format}
 use Rattle.format.specs.declared.SectionNumber.{SectionNumber}
-use Rattle.format.specs.declared.SectionKind.{SectionKind}
-use Rattle.format.specs.declared.KindAnswer.{KindAnswer}
-use Rattle.format.specs.declared.KindAnswer.the-variants.{Allowed, NotAllowed}
+use Rattle.section_kind.specs.declared.SectionKind.{SectionKind}
+use Rattle.section_kind.specs.declared.KindAnswer.{KindAnswer}
+use Rattle.section_kind.specs.declared.KindAnswer.the-variants.{Allowed, NotAllowed}
 use Rattle.format.specs.Layout.{addressLimit}
-use Rattle.format.specs.Kind.{kindOf}
+use Rattle.section_kind.specs.Kind.{kindOf}
 use Rattle.section.specs.declared.SectionHeader.{SectionHeader}
 use Rattle.section.specs.declared.SectionAnswer.{SectionAnswer}
 use Rattle.section.specs.declared.SectionAnswer.the-variants.{Found, Refused}

@@ -7,12 +7,12 @@ use lib.Dec.{eqb}
 use Rattle.word.specs.Number.{fieldIn}
 use Rattle.word.specs.Test.{past}
 use Rattle.format.specs.declared.Format.{Format}
-use Rattle.format.specs.declared.SectionKind.{SectionKind}
+use Rattle.section_kind.specs.declared.SectionKind.{SectionKind}
 use Rattle.format.specs.declared.SectionNumber.{SectionNumber}
-use Rattle.format.specs.declared.KindAnswer.{KindAnswer}
-use Rattle.format.specs.declared.KindAnswer.the-variants.{Allowed, NotAllowed}
+use Rattle.section_kind.specs.declared.KindAnswer.{KindAnswer}
+use Rattle.section_kind.specs.declared.KindAnswer.the-variants.{Allowed, NotAllowed}
 use Rattle.format.specs.Layout.{sectionLayout, addressLimit}
-use Rattle.format.specs.Kind.{kindOf, hasRawKind, isPlacedKind}
+use Rattle.section_kind.specs.Kind.{kindOf, hasRawKind, isPlacedKind}
 use Rattle.refusal.specs.declared.Refusal.the-variants.{Kind, Bounds, Address}
 use Rattle.refusal.specs.declared.BoundsItem.the-variants.{RawData}
 use Rattle.refusal.specs.declared.AddressItem.the-variants.{Misplaced}

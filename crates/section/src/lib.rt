@@ -6,8 +6,8 @@ ghost use Rattle.format.specs.Layout.{sectionLayout};
 ghost use Rattle.section.specs.Section.{sectionHeaderAt, hasRawData, rawDataPast, misplaced, sectionOf, judgeSection};
 use format::FileOffset;
 use format::Format;
-use format::KindAnswer;
-use format::SectionKind;
+use section_kind::KindAnswer;
+use section_kind::SectionKind;
 use format::SectionNumber;
 use format::VirtualAddress;
 use refusal::AddressItem;
@@ -61,7 +61,7 @@ pub fn read_section_header(file: &[u8], f: Format, base: usize) -> SectionHeader
 fn has_data(k: SectionKind, h: SectionHeader) -> bool
     ensures { λ r. ⌜ r ≡ hasRawData k h ⌝ }
 {
-    if format::has_raw_kind(k) {
+    if k.may_have_raw() {
         let p = h.scnptr;
         return p.0 != 0;
     }
@@ -83,7 +83,7 @@ fn is_raw_data_past(k: SectionKind, len: u64, h: SectionHeader) -> bool
 fn is_misplaced(f: Format, k: SectionKind, h: SectionHeader) -> bool
     ensures { λ r. ⌜ r ≡ misplaced f k h ⌝ }
 {
-    if format::is_placed_kind(k) {
+    if k.is_placed() {
         let p = h.paddr;
         let v = h.vaddr;
         if v.0 != p.0 {
@@ -115,7 +115,7 @@ fn section_of(k: SectionKind, h: SectionHeader) -> Section
 pub fn judge_section(f: Format, len: u64, h: SectionHeader, n: SectionNumber) -> SectionAnswer
     ensures { λ r. ⌜ r ≡ judgeSection f len h n ⌝ }
 {
-    let a = format::kind_of(h.flags);
+    let a = SectionKind::of_flags(h.flags);
     match a {
         KindAnswer::NotAllowed => SectionAnswer::Refused(Refusal::Kind(n)),
         KindAnswer::Allowed(k) => {

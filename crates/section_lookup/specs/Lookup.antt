@@ -1,12 +1,12 @@
 -- A section looked up by its number: opening's refusals, then INDEX.
-use Prim.Native.Nat.{ℕ, _-_}
+use Prim.Native.Nat.{ℕ, _-_, _%_}
 use mathlib.Core.Bool.{_||_}
 use mathlib.Core.List.{List}
 use lib.Dec.{eqb, ltb}
 use lib.ListN.{getD}
 use Rattle.format.specs.declared.FileRange.{FileRange}
 use Rattle.format.specs.declared.SectionNumber.{SectionNumber}
-use Rattle.format.specs.Kind.{flagOf}
+use Rattle.section_kind.specs.Kind.{flagsOf}
 use Rattle.format.specs.Layout.{sectionLayout}
 use Rattle.format.specs.Range.{textIn}
 use Rattle.refusal.specs.declared.RangeAnswer.{RangeAnswer}
@@ -52,7 +52,7 @@ reportOfSection (Found s) =
       vaddr = s .vaddr .0;
       size = s .size;
       scnptr = s .scnptr .0;
-      flag = flagOf (s .kind);
+      flag = flagsOf (s .kind) % 65536;
       raw = oneIf (s .raw);
     }
 reportOfSection (Refused x) =

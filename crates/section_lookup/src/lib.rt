@@ -113,7 +113,7 @@ pub fn report_section(a: SectionAnswer) -> SectionReport
                 vaddr: vaddr.0,
                 size: s.size,
                 scnptr: scnptr.0,
-                flag: format::flag_of(kind),
+                flag: kind.flags() % 65536,
                 raw: refusal::one_if(s.raw),
             }
         }

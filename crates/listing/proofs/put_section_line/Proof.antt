@@ -1,5 +1,6 @@
 -- The parts are written one after the other, as the definition joins them. A number below 100 has two digits.
-use Rattle.listing.specs.Listing.{blank, newline, kindWord, addressDigits, sectionLine}
+use Rattle.section_kind.specs.Kind.{kindWord}
+use Rattle.listing.specs.Listing.{blank, newline, addressDigits, sectionLine}
 use Rattle.text.proofs.Stores.{Wrote, wrote, _then_}
 use Rattle.text.proofs.Number.{decimal-bound}
 use Rattle.text.specs.Text.{decimal, hex}
@@ -14,8 +15,8 @@ put-decimal-requires c κs = search needs
 put-byte-requires : tie.Need-put-byte-requires
 put-byte-requires c κs = search needs
 
-put-kind-requires : tie.Need-put-kind-requires
-put-kind-requires c κs = search needs
+put-word-requires : tie.Need-put-word-requires
+put-word-requires c κs = search needs
 
 put-byte-requires-2 : tie.Need-put-byte-requires-2
 put-byte-requires-2 c κs = search needs
@@ -46,7 +47,7 @@ returns c =
     let line : Wrote (a .out .now) (a .at) (sectionLine (a .f) (a .n) (a .s)) (c .put-byte4 .last .0) (c .put-byte4 .result) =
     wrote (decimal (a .n)) (number .put-decimal .ensures .0) (number .put-decimal .ensures .1 .0)
     then wrote blank (blank1 .put-byte .ensures .0) (blank1 .put-byte .ensures .1)
-    then wrote (kindWord (a .s .kind)) (kind .put-kind .ensures .0) (kind .put-kind .ensures .1 .0)
+    then wrote (kindWord (a .s .kind)) (kind .put-word .ensures .0) (kind .put-word .ensures .1 .0)
     then wrote blank (blank2 .put-byte2 .ensures .0) (blank2 .put-byte2 .ensures .1)
     then wrote (hex (addressDigits (a .f)) (a .s .paddr .0)) (address .put-address .ensures .0) (address .put-address .ensures .1 .0)
     then wrote blank (blank3 .put-byte3 .ensures .0) (blank3 .put-byte3 .ensures .1)
@@ -60,7 +61,7 @@ put-section-line-spec =
     (tie.spec
     put-decimal-requires
     put-byte-requires
-    put-kind-requires
+    put-word-requires
     put-byte-requires-2
     put-address-requires
     put-byte-requires-3

@@ -24,8 +24,8 @@ mul-s c = search needs
 array-copy-out-s : tie.Need-array-copy-out-s Inv-loop μ-loop
 array-copy-out-s c = search needs
 
-flag-of-requires : tie.Need-flag-of-requires Inv-loop μ-loop
-flag-of-requires c κs = search needs
+flags-requires : tie.Need-flags-requires Inv-loop μ-loop
+flags-requires c κs = search needs
 
 is-thread-requires : tie.Need-is-thread-requires Inv-loop μ-loop
 is-thread-requires c κs = search needs
@@ -34,7 +34,7 @@ add-t15 : tie.Need-add-t15 Inv-loop μ-loop
 add-t15 c = search needs
 
 returns : tie.Need-returns Inv-loop μ-loop
-returns c = sym (c .before .before .before .before .before .loop .inv .1 ∙ first-stop (threadAt (c .before .before .before .before .before .before .args .t1)) (c .before .before .before .before .before .before .args .count) (c .before .before .before .before .before .loop .i) (c .before .before .before .before .loop-test .taken) (thread-told (c .before .before .before .before .before .before .args .t1) (c .before .before .before .before .before .loop .i) (rw (c .before .before .flag-of .ensures) at (c .before .is-thread .ensures)) ∙ c .if1 .taken) ∙ thread-refused (c .before .before .before .before .before .before .args .t1) (c .before .before .before .before .before .loop .i) (found (rw (c .before .before .flag-of .ensures) at (c .before .is-thread .ensures)) (c .if1 .taken)))
+returns c = sym (c .before .before .before .before .before .loop .inv .1 ∙ first-stop (threadAt (c .before .before .before .before .before .before .args .t1)) (c .before .before .before .before .before .before .args .count) (c .before .before .before .before .before .loop .i) (c .before .before .before .before .loop-test .taken) (thread-told (c .before .before .before .before .before .before .args .t1) (c .before .before .before .before .before .loop .i) (rw (c .before .before .flags .ensures) at (c .before .is-thread .ensures)) ∙ c .if1 .taken) ∙ thread-refused (c .before .before .before .before .before .before .args .t1) (c .before .before .before .before .before .loop .i) (found (rw (c .before .before .flags .ensures) at (c .before .is-thread .ensures)) (c .if1 .taken)))
 
 add-i : tie.Need-add-i Inv-loop μ-loop
 add-i c = search needs
@@ -43,7 +43,7 @@ loop-less : tie.Need-loop-less Inv-loop μ-loop
 loop-less c = search needs
 
 loop-again : tie.Need-loop-again Inv-loop μ-loop
-loop-again c = (search needs, c .before .before .before .before .before .loop .inv .1 ∙ first-turn (threadAt (c .before .before .before .before .before .before .args .t1)) (c .before .before .before .before .before .before .args .count) (c .before .before .before .before .before .loop .i) (c .before .before .before .before .loop-test .taken) (thread-told (c .before .before .before .before .before .before .args .t1) (c .before .before .before .before .before .loop .i) (rw (c .before .before .flag-of .ensures) at (c .before .is-thread .ensures)) ∙ c .if1 .left))
+loop-again c = (search needs, c .before .before .before .before .before .loop .inv .1 ∙ first-turn (threadAt (c .before .before .before .before .before .before .args .t1)) (c .before .before .before .before .before .before .args .count) (c .before .before .before .before .before .loop .i) (c .before .before .before .before .loop-test .taken) (thread-told (c .before .before .before .before .before .before .args .t1) (c .before .before .before .before .before .loop .i) (rw (c .before .before .flags .ensures) at (c .before .is-thread .ensures)) ∙ c .if1 .left))
 
 returns-2 : tie.Need-returns-2 Inv-loop μ-loop
 returns-2 c = sym (c .before .loop .inv .1 ∙ first-end (threadAt (c .before .before .args .t1)) (c .before .before .args .count) (c .before .loop .i) (c .loop-test .left))
@@ -57,7 +57,7 @@ check-thread-spec =
     loop-holds
     mul-s
     array-copy-out-s
-    flag-of-requires
+    flags-requires
     is-thread-requires
     add-t15
     returns

@@ -24,8 +24,8 @@ mul-s c = search needs
 array-copy-out-s : tie.Need-array-copy-out-s Inv-loop μ-loop
 array-copy-out-s c = search needs
 
-flag-of-requires : tie.Need-flag-of-requires Inv-loop μ-loop
-flag-of-requires c κs = search needs
+flags-requires : tie.Need-flags-requires Inv-loop μ-loop
+flags-requires c κs = search needs
 
 tally-step-requires : tie.Need-tally-step-requires Inv-loop μ-loop
 tally-step-requires c κs = rw (c .before .before .before .loop .inv .1) (tally-few (c .before .before .before .before .args .t1) (c .before .before .before .before .args .flag) (c .before .before .before .loop .i) .0, omega arith)
@@ -37,7 +37,7 @@ loop-less : tie.Need-loop-less Inv-loop μ-loop
 loop-less c = search needs
 
 loop-again : tie.Need-loop-again Inv-loop μ-loop
-loop-again c = (search needs, c .tally-step .ensures ∙ rw (c .before .before .before .before .loop .inv .1) (tally-more (c .before .before .before .before .before .args .t1) (c .before .before .before .before .before .args .flag) (c .before .before .before .before .loop .i) (ap (λ k. eqb k (c .before .before .before .before .before .args .flag)) (c .before .flag-of .ensures))))
+loop-again c = (search needs, c .tally-step .ensures ∙ rw (c .before .before .before .before .loop .inv .1) (tally-more (c .before .before .before .before .before .args .t1) (c .before .before .before .before .before .args .flag) (c .before .before .before .before .loop .i) (ap (λ k. eqb k (c .before .before .before .before .before .args .flag)) (c .before .flags .ensures))))
 
 returns : tie.Need-returns Inv-loop μ-loop
 returns c = let l = c .before .loop in let e : l .i ≡ c .before .before .args .count = omega arith in rw e at (l .inv .1)
@@ -51,7 +51,7 @@ tally-kind-spec =
     loop-holds
     mul-s
     array-copy-out-s
-    flag-of-requires
+    flags-requires
     tally-step-requires
     add-i
     loop-less

@@ -14,8 +14,8 @@ enum-known-a-2 c = search needs
 report-head-requires-2 : tie.Need-report-head-requires-2
 report-head-requires-2 c κs = search needs
 
-flag-of-requires : tie.Need-flag-of-requires
-flag-of-requires c κs = search needs
+flags-requires : tie.Need-flags-requires
+flags-requires c κs = search needs
 
 one-if-requires : tie.Need-one-if-requires
 one-if-requires c κs = search needs
@@ -24,7 +24,7 @@ returns : tie.Need-returns
 returns c = rw (c .before .before .a .given .1, c .report-head .ensures)
 
 returns-2 : tie.Need-returns-2
-returns-2 c = rw (c .before .before .before .before .before .before .before .a2 .given .1, c .before .before .report-head2 .ensures, c .before .flag-of .ensures, c .one-if .ensures)
+returns-2 c = rw (c .before .before .before .before .before .before .before .a2 .given .1, c .before .before .report-head2 .ensures, c .before .flags .ensures, c .one-if .ensures)
 
 pub report-section-spec : {M : Type 1} → statement M
 report-section-spec =
@@ -34,7 +34,7 @@ report-section-spec =
     report-head-requires
     enum-known-a-2
     report-head-requires-2
-    flag-of-requires
+    flags-requires
     one-if-requires
     returns
     returns-2)

@@ -1,8 +1,8 @@
 -- Each arm writes the word that the definition gives its kind.
 use native.Mathlib.Omega.{arith}
 use borrow.Author.Needs.{needs}
-use Rattle.listing.proofs.put_kind.Statement.{statement}
-use Rattle.listing.proofs.put_kind.Tie as tie
+use Rattle.section_kind.proofs.SectionKind.put_word.Statement.{statement}
+use Rattle.section_kind.proofs.SectionKind.put_word.Tie as tie
 
 enum-told : tie.Need-enum-told
 enum-told c = search needs
@@ -172,8 +172,8 @@ returns-13 c = let e = c .put-bytes13 .ensures in rw (c .before .before .before 
 returns-14 : tie.Need-returns-14
 returns-14 c = let e = c .put-bytes14 .ensures in rw (c .before .before .before .enum-told14 .given .1) (e .0, (e .1, omega arith))
 
-pub put-kind-spec : {M : Type 1} → statement M
-put-kind-spec =
+pub put-word-spec : {M : Type 1} → statement M
+put-word-spec =
     tie.close
     (tie.spec
     enum-told

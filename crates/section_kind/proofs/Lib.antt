@@ -1,0 +1,3 @@
+-- The laws of `section_kind`.
+pub mod Lookup
+pub mod List
