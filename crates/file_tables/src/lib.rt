@@ -8,7 +8,6 @@ ghost use Rattle.file_tables.specs.Tables.{blankSection, judgedAt, refus
 use file_header::FileHeader;
 use format::FileOffset;
 use format::FileRange;
-use section_kind::SectionKind;
 use format::SectionNumber;
 use format::VirtualAddress;
 use refusal::BoundsItem;
@@ -16,6 +15,7 @@ use refusal::Refusal;
 use refusal::Verdict;
 use section::Section;
 use section::SectionAnswer;
+use section_kind::SectionKind;
 
 // Where the symbol table and the string table lie. A length of 0: there is no string table.
 pub struct SymbolTable {

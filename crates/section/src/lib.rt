@@ -6,13 +6,13 @@ ghost use Rattle.format.specs.Layout.{sectionLayout};
 ghost use Rattle.section.specs.Section.{sectionHeaderAt, hasRawData, rawDataPast, misplaced, sectionOf, judgeSection};
 use format::FileOffset;
 use format::Format;
-use section_kind::KindAnswer;
-use section_kind::SectionKind;
 use format::SectionNumber;
 use format::VirtualAddress;
 use refusal::AddressItem;
 use refusal::BoundsItem;
 use refusal::Refusal;
+use section_kind::KindAnswer;
+use section_kind::SectionKind;
 
 // A section header's numbers, as they stand in the file.
 pub struct SectionHeader {

@@ -94,10 +94,12 @@ allowed-listed flags k n e = by-high (eqb (flags / 65536) 0) refl (eqb (flags % 
   where
     named : kindIn (flags % 65536) kinds ≡ Allowed k → (At (flags % 65536) kinds k → (flags / 65536 ≡ 0) ⊎ (k ≡ Dwarf)) → Names flags k
     named q h = let r = found-at (flags % 65536) kinds k q in record { place = r .place; inside = r .inside; listed = r .listed; low = r .flags; high = h r }
+
     dwarf : flags % 65536 ≡ flagsOf Dwarf → At (flags % 65536) kinds k → k ≡ Dwarf
     dwarf w r =
         let i = each-once (r .place) 1 (r .inside) (omega arith) (ap flagsOf (r .listed) ∙ r .flags ∙ w) in
         sym (r .listed) ∙ ap (λ (j : ℕ). getD kinds j Deleted) i
+
     by-high : (a : Bool) → eqb (flags / 65536) 0 ≡ a → (b : Bool) → eqb (flags % 65536) (flagsOf Dwarf) ≡ b → cond (a || b) (kindIn (flags % 65536) kinds) NotAllowed ≡ Allowed k → Names flags k
     by-high true t b u q = named q (λ r. inl (eqb-true (flags / 65536) 0 t))
     by-high false t true u q = named q (λ r. inr (dwarf (eqb-true (flags % 65536) (flagsOf Dwarf) u) r))
@@ -110,6 +112,7 @@ listed-allowed flags k n r = rw (ne-eqb flags 0xFFFFFFFF n) (by-high (r .high))
   where
     found : kindIn (flags % 65536) kinds ≡ Allowed k
     found = at-found (flags % 65536) kinds refl (r .place) (r .inside) (ap flagsOf (r .listed) ∙ r .low) ∙ ap Allowed (r .listed)
+
     by-high : (flags / 65536 ≡ 0) ⊎ (k ≡ Dwarf) → cond (eqb (flags / 65536) 0 || eqb (flags % 65536) (flagsOf Dwarf)) (kindIn (flags % 65536) kinds) NotAllowed ≡ Allowed k
     by-high (inl z) = rw (eq-eqb (flags / 65536) 0 z) found
     by-high (inr d) = rw (eq-eqb (flags % 65536) (flagsOf Dwarf) (sym (r .low) ∙ ap flagsOf d)) (or-kept (eqb (flags / 65536) 0))

@@ -32,17 +32,29 @@ pub enum KindAnswer {
 impl SectionKind {
     // The low 16 bits of the flags of each allowed kind.
     pub const PAD: u64 = 0x0008;
+
     pub const DWARF: u64 = 0x0010;
+
     pub const TEXT: u64 = 0x0020;
+
     pub const DATA: u64 = 0x0040;
+
     pub const BSS: u64 = 0x0080;
+
     pub const EXCEPT: u64 = 0x0100;
+
     pub const INFO: u64 = 0x0200;
+
     pub const TDATA: u64 = 0x0400;
+
     pub const TBSS: u64 = 0x0800;
+
     pub const LOADER: u64 = 0x1000;
+
     pub const DEBUG: u64 = 0x2000;
+
     pub const TYPCHK: u64 = 0x4000;
+
     pub const OVRFLO: u64 = 0x8000;
 
     // Flags of all ones: the section is deleted.
