@@ -17,8 +17,7 @@ use Rattle.history.specs.declared.Relocation.{Relocation}
 use Rattle.history.specs.Images.{Images, images, Shifts, signed, addAt, applyEntry, applyAll}
 use Rattle.plan.specs.Relocatable.{relocationAt, relocationsFrom}
 use Rattle.plan.proofs.Symbols.{entries-start, entries-turn, entries-end}
-use Rattle.apply.specs.Shift.{StandsFor}
-use Rattle.apply.proofs.Stands.{narrowed}
+use Rattle.apply.proofs.Stands.{narrowed, stands}
 
 -- ---- integers with one remainder modulo 2^64
 
@@ -33,7 +32,7 @@ signed-alike true a b h = remainder-neg (2 ^ 64) (lit< tt) a b h
 signed-alike false a b h = h
 
 -- so they have one effect on a field
-pub field-alike : (wide minus : Bool) (off : ℕ) (a b : ℤ) (bs : List ℕ) → remainder a (2 ^ 64) ≡ remainder b (2 ^ 64)
+field-alike : (wide minus : Bool) (off : ℕ) (a b : ℤ) (bs : List ℕ) → remainder a (2 ^ 64) ≡ remainder b (2 ^ 64)
     → addField (bytesWide wide) off (signed minus a) bs ≡ addField (bytesWide wide) off (signed minus b) bs
 field-alike wide minus off a b bs h =
     add-cong (bytesWide wide) off (signed minus a) (signed minus b) bs (field-narrowed wide (signed minus a) (signed minus b) (signed-alike minus a b h))
@@ -76,23 +75,23 @@ module _ (file : List ℕ) (l : Loadable) (i : ℕ) (e : Relocation) where
 
   -- z is the number by which the entry's field is changed
   module _ (s : Shifts) (z : ℕ) (t d bs : List ℕ) where
-    -- a field of text changed by a number that stands for its symbol's shift is the entry applied
-    pub text-applied : e ≡ relocationAt file l i → e .place .text ≡ true → StandsFor z (s (e .symbol))
+    -- a field of text changed by its symbol's shift modulo 2^64 is the entry applied
+    pub text-applied : e ≡ relocationAt file l i → e .place .text ≡ true → z ≡ remainder (s (e .symbol)) (2 ^ 64)
         → bs ≡ addField (bytesWide (e .place .wide)) (e .place .offset) (signed (e .minus) (pos z)) t
         → images bs d ≡ applyEntry (relocationAt file l i) s (images t d)
     unfolding applyEntry addAt
     text-applied r p h b =
         rw (← r, p)
-        (ap (λ (x : List ℕ). images x d) (b ∙ field-alike (e .place .wide) (e .minus) (e .place .offset) (pos z) (s (e .symbol)) t h))
+        (ap (λ (x : List ℕ). images x d) (b ∙ field-alike (e .place .wide) (e .minus) (e .place .offset) (pos z) (s (e .symbol)) t (stands z (s (e .symbol)) h)))
 
     -- so is a field of data
-    pub data-applied : e ≡ relocationAt file l i → e .place .text ≡ false → StandsFor z (s (e .symbol))
+    pub data-applied : e ≡ relocationAt file l i → e .place .text ≡ false → z ≡ remainder (s (e .symbol)) (2 ^ 64)
         → bs ≡ addField (bytesWide (e .place .wide)) (e .place .offset) (signed (e .minus) (pos z)) d
         → images t bs ≡ applyEntry (relocationAt file l i) s (images t d)
     unfolding applyEntry addAt
     data-applied r p h b =
         rw (← r, p)
-        (ap (λ (x : List ℕ). images t x) (b ∙ field-alike (e .place .wide) (e .minus) (e .place .offset) (pos z) (s (e .symbol)) d h))
+        (ap (λ (x : List ℕ). images t x) (b ∙ field-alike (e .place .wide) (e .minus) (e .place .offset) (pos z) (s (e .symbol)) d (stands z (s (e .symbol)) h)))
 
 -- ---- a loop over the entries, by the work that is left
 

@@ -19,8 +19,8 @@ use Rattle.loadable.specs.declared.Loadable.{Loadable}
 use Rattle.loadable.specs.Valid.{Valid}
 use Rattle.history.specs.declared.Relocation.{Relocation}
 use Rattle.history.specs.Images.{Images, applyAll}
-use Rattle.plan.specs.Relocatable.{relocationAt, relocationsFrom}
-use Rattle.apply.specs.Shift.{shiftsBy}
+use Rattle.plan.specs.Relocatable.{relocationAt, relocationsFrom, relocatableOf}
+use Rattle.apply.specs.Shift.{ForPlans}
 
 -- ---- fields of XCOFF32 are of 4 bytes
 
@@ -69,6 +69,6 @@ pub kept : {w l : Loadable} (P : Loadable → Type 0) → w ≡ l → P l → P 
 kept P e h = rw e h
 
 pub applied-same : {w l : Loadable} (file d from to : List ℕ) (moving : Bool) (x y : Images) → w ≡ l
-    → y ≡ applyAll (relocationsFrom file w 0 (w .tables .nreloc)) (shiftsBy file w d moving from to) x
-    → y ≡ applyAll (relocationsFrom file l 0 (l .tables .nreloc)) (shiftsBy file l d moving from to) x
+    → ForPlans (relocatableOf file w) d moving from to (λ s. y ≡ applyAll (relocationsFrom file w 0 (w .tables .nreloc)) s x)
+    → ForPlans (relocatableOf file l) d moving from to (λ s. y ≡ applyAll (relocationsFrom file l 0 (l .tables .nreloc)) s x)
 applied-same file d from to moving x y e h = rw e at h

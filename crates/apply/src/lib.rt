@@ -1,14 +1,15 @@
 // Relocation entries applied to the two images of a module.
 ghost use mathlib.Core.Path.{_≡_};
-ghost use Prim.Native.Nat.{_+_, _≤_, _<_};
+ghost use Prim.Native.Nat.{_+_, _^_, _≤_, _<_};
 ghost use lib.ListN.{length};
 ghost use lib.IntN.{pos};
 ghost use Rattle.relocation.specs.Relocation.{bytesWide};
 ghost use Rattle.loadable.specs.Valid.{Valid};
-ghost use Rattle.update.specs.Update.{addField};
+ghost use Rattle.update.specs.Update.{remainder, addField};
 ghost use Rattle.history.specs.Images.{images, signed, applyEntry, applyAll};
-ghost use Rattle.plan.specs.Relocatable.{relocationAt, relocationsFrom};
-ghost use Rattle.apply.specs.Shift.{StandsFor, importShift, shiftsBy};
+ghost use Rattle.history.specs.Plan.{Relocatable, Plan};
+ghost use Rattle.plan.specs.Relocatable.{relocationAt, relocationsFrom, relocatableOf};
+ghost use Rattle.apply.specs.Shift.{shiftOf, ForPlans};
 use format::Format;
 use history::Followed;
 use loadable::Loadable;
@@ -53,7 +54,7 @@ fn add_to_field(s: &mut [u8], off: usize, wide: bool, minus: bool, z: u64)
 // An import's shift: to the address in one list, in a move from that in the other, in a build from its recorded value.
 fn import_shift(moving: bool, from: &[u64], to: &[u64], k: u64, value: u64) -> u64
     requires { ⌜ (k < length (now from)) × (k < length (now to)) ⌝ }
-    ensures { λ r. ⌜ StandsFor r (importShift moving (now (from .entry)) (now (to .entry)) k value) ⌝ }
+    ensures { λ r. ⌜ ((m : Relocatable) (p q : Plan) → p .list ≡ now (from .entry) → q .list ≡ now (to .entry) → r ≡ remainder (shiftOf m moving p q (Followed.Import k value)) (2 ^ 64)) ⌝ }
 {
     let place = k as usize;
     if moving {
@@ -74,7 +75,7 @@ fn loader_shift(
 ) -> u64
     requires { ⌜ Valid (now file) l × (3 ≤ symbol) × (symbol < 3 + l .tables .nsyms) ⌝ }
     requires { ⌜ (length (now from) ≡ l .tables .nsyms) × (length (now to) ≡ l .tables .nsyms) ⌝ }
-    ensures { λ r. ⌜ StandsFor r (shiftsBy (now (file .entry)) l d moving (now (from .entry)) (now (to .entry)) symbol) ⌝ }
+    ensures { λ r. ⌜ ForPlans (relocatableOf (now (file .entry)) l) d moving (now (from .entry)) (now (to .entry)) (λ s. r ≡ remainder (s symbol) (2 ^ 64)) ⌝ }
 {
     let m = l.layout;
     let t = l.tables;
@@ -105,7 +106,7 @@ fn shift_of(
 ) -> u64
     requires { ⌜ Valid (now file) l × (symbol < 3 + l .tables .nsyms) ⌝ }
     requires { ⌜ (length (now from) ≡ l .tables .nsyms) × (length (now to) ≡ l .tables .nsyms) ⌝ }
-    ensures { λ r. ⌜ StandsFor r (shiftsBy (now (file .entry)) l d moving (now (from .entry)) (now (to .entry)) symbol) ⌝ }
+    ensures { λ r. ⌜ ForPlans (relocatableOf (now (file .entry)) l) d moving (now (from .entry)) (now (to .entry)) (λ s. r ≡ remainder (s symbol) (2 ^ 64)) ⌝ }
 {
     match symbol {
         0 => d[0],
@@ -130,7 +131,7 @@ fn apply_entry(
     requires { ⌜ Valid (now file) l × (i < l .tables .nreloc) ⌝ }
     requires { ⌜ (length (now from) ≡ l .tables .nsyms) × (length (now to) ≡ l .tables .nsyms) ⌝ }
     requires { ⌜ (length (now text) ≡ l .layout .parts .text .size) × (length (now «data») ≡ l .layout .image) ⌝ }
-    ensures { λ _. ⌜ images (now (text .exit)) (now («data» .exit)) ≡ applyEntry (relocationAt (now (file .entry)) l i) (shiftsBy (now (file .entry)) l d moving (now (from .entry)) (now (to .entry))) (images (now (text .entry)) (now («data» .entry))) ⌝ }
+    ensures { λ _. ⌜ ForPlans (relocatableOf (now (file .entry)) l) d moving (now (from .entry)) (now (to .entry)) (λ s. images (now (text .exit)) (now («data» .exit)) ≡ applyEntry (relocationAt (now (file .entry)) l i) s (images (now (text .entry)) (now («data» .entry)))) ⌝ }
 {
     let e = plan::relocation_at(file, l, i);
     let place = e.place;
@@ -158,7 +159,7 @@ fn apply_entry32(
     requires { ⌜ (length (now from) ≡ l .tables .nsyms) × (length (now to) ≡ l .tables .nsyms) ⌝ }
     requires { ⌜ (length (now text) ≡ l .layout .parts .text .size) × (length (now «data») ≡ l .layout .image) ⌝ }
     requires { ⌜ l .layout .format ≡ Format.Xcoff32 ⌝ }
-    ensures { λ _. ⌜ images (now (text .exit)) (now («data» .exit)) ≡ applyEntry (relocationAt (now (file .entry)) l i) (shiftsBy (now (file .entry)) l d moving (now (from .entry)) (now (to .entry))) (images (now (text .entry)) (now («data» .entry))) ⌝ }
+    ensures { λ _. ⌜ ForPlans (relocatableOf (now (file .entry)) l) d moving (now (from .entry)) (now (to .entry)) (λ s. images (now (text .exit)) (now («data» .exit)) ≡ applyEntry (relocationAt (now (file .entry)) l i) s (images (now (text .entry)) (now («data» .entry)))) ⌝ }
 {
     let e = plan::relocation_at(file, l, i);
     let place = e.place;
@@ -184,7 +185,7 @@ fn apply_entries(
     requires { ⌜ Valid (now file) l ⌝ }
     requires { ⌜ (length (now from) ≡ l .tables .nsyms) × (length (now to) ≡ l .tables .nsyms) ⌝ }
     requires { ⌜ (length (now text) ≡ l .layout .parts .text .size) × (length (now «data») ≡ l .layout .image) ⌝ }
-    ensures { λ _. ⌜ images (now (text .exit)) (now («data» .exit)) ≡ applyAll (relocationsFrom (now (file .entry)) l 0 (l .tables .nreloc)) (shiftsBy (now (file .entry)) l d moving (now (from .entry)) (now (to .entry))) (images (now (text .entry)) (now («data» .entry))) ⌝ }
+    ensures { λ _. ⌜ ForPlans (relocatableOf (now (file .entry)) l) d moving (now (from .entry)) (now (to .entry)) (λ s. images (now (text .exit)) (now («data» .exit)) ≡ applyAll (relocationsFrom (now (file .entry)) l 0 (l .tables .nreloc)) s (images (now (text .entry)) (now («data» .entry)))) ⌝ }
 {
     let t = l.tables;
     let count = t.nreloc;
@@ -210,7 +211,7 @@ fn apply_entries32(
     requires { ⌜ (length (now from) ≡ l .tables .nsyms) × (length (now to) ≡ l .tables .nsyms) ⌝ }
     requires { ⌜ (length (now text) ≡ l .layout .parts .text .size) × (length (now «data») ≡ l .layout .image) ⌝ }
     requires { ⌜ l .layout .format ≡ Format.Xcoff32 ⌝ }
-    ensures { λ _. ⌜ images (now (text .exit)) (now («data» .exit)) ≡ applyAll (relocationsFrom (now (file .entry)) l 0 (l .tables .nreloc)) (shiftsBy (now (file .entry)) l d moving (now (from .entry)) (now (to .entry))) (images (now (text .entry)) (now («data» .entry))) ⌝ }
+    ensures { λ _. ⌜ ForPlans (relocatableOf (now (file .entry)) l) d moving (now (from .entry)) (now (to .entry)) (λ s. images (now (text .exit)) (now («data» .exit)) ≡ applyAll (relocationsFrom (now (file .entry)) l 0 (l .tables .nreloc)) s (images (now (text .entry)) (now («data» .entry)))) ⌝ }
 {
     let t = l.tables;
     let count = t.nreloc;
@@ -256,7 +257,7 @@ pub fn apply_all(
     requires { ⌜ Valid (now file) l ⌝ }
     requires { ⌜ (length (now from) ≡ l .tables .nsyms) × (length (now to) ≡ l .tables .nsyms) ⌝ }
     requires { ⌜ (length (now text) ≡ l .layout .parts .text .size) × (length (now «data») ≡ l .layout .image) ⌝ }
-    ensures { λ _. ⌜ images (now (text .exit)) (now («data» .exit)) ≡ applyAll (relocationsFrom (now (file .entry)) l 0 (l .tables .nreloc)) (shiftsBy (now (file .entry)) l d moving (now (from .entry)) (now (to .entry))) (images (now (text .entry)) (now («data» .entry))) ⌝ }
+    ensures { λ _. ⌜ ForPlans (relocatableOf (now (file .entry)) l) d moving (now (from .entry)) (now (to .entry)) (λ s. images (now (text .exit)) (now («data» .exit)) ≡ applyAll (relocationsFrom (now (file .entry)) l 0 (l .tables .nreloc)) s (images (now (text .entry)) (now («data» .entry)))) ⌝ }
 {
     let m = l.layout;
     let f = m.format;

@@ -4,8 +4,8 @@ ghost use Prim.Native.Nat.{_-_};
 ghost use lib.ListN.{length};
 ghost use Rattle.loadable.specs.Valid.{Valid};
 ghost use Rattle.refusal.specs.Order.{_orElse_};
-ghost use Rattle.history.specs.Plan.{listCheck, fitCheck};
-ghost use Rattle.history.specs.Call.{Call, build, roomCheck, callCheck};
+ghost use Rattle.history.specs.Plan.{listRoom, fitCheck, planCheck};
+ghost use Rattle.history.specs.Call.{Call, build, move, bufferRoom, callCheck};
 ghost use Rattle.plan.specs.Relocatable.{relocatableOf};
 ghost use Rattle.displacement.specs.Reach.{planOf};
 use displacement::Addresses;
@@ -14,12 +14,23 @@ use refusal::Refusal;
 use refusal::RoomItem;
 use refusal::Verdict;
 
-// ---- which calls are accepted
+// ROOM 2, then PLAN: a plan for a module that is accepted.
+pub fn check_plan(file: &[u8], l: Loadable, at: Addresses, imports: &[u64]) -> Verdict
+    requires { ⌜ Valid (now file) l ⌝ }
+    ensures { λ r. ⌜ r ≡ planCheck (relocatableOf (now (file .entry)) l) (planOf at (now (imports .entry))) ⌝ }
+{
+    let list = plan::check_list(l, imports);
+    if refusal::refuses(list) {
+        return list;
+    }
+    let text = at.text;
+    let data = at.data;
+    plan::check_fit(file, l, text.0, data.0, imports)
+}
 
 // ROOM 0 and 1: buffers of exactly the images' lengths.
-pub fn check_room(file: &[u8], l: Loadable, text: usize, data: usize) -> Verdict
-    requires { ⌜ Valid (now file) l ⌝ }
-    ensures { λ r. ⌜ r ≡ roomCheck (relocatableOf (now (file .entry)) l) text «data» ⌝ }
+pub fn check_room(l: Loadable, text: usize, data: usize) -> Verdict
+    ensures { λ r. ⌜ r ≡ bufferRoom (l .layout .parts .text .size) (l .layout .image) text «data» ⌝ }
 {
     let m = l.layout;
     let p = m.parts;
@@ -33,7 +44,7 @@ pub fn check_room(file: &[u8], l: Loadable, text: usize, data: usize) -> Verdict
     Verdict::Accepted
 }
 
-// A build's list, its plan, then the buffers' lengths.
+// A build's plan, then the buffers' lengths.
 pub fn check_build(
     file: &[u8],
     l: Loadable,
@@ -45,39 +56,22 @@ pub fn check_build(
     requires { ⌜ Valid (now file) l ⌝ }
     ensures { λ r. ⌜ r ≡ callCheck (relocatableOf (now (file .entry)) l) text «data» (build (planOf at (now (imports .entry)))) ⌝ }
 {
-    let t = at.text;
-    let d = at.data;
-    let list = plan::check_list(file, l, t.0, d.0, imports);
-    if refusal::refuses(list) {
-        return list;
-    }
-    let fit = plan::check_fit(file, l, t.0, d.0, imports);
-    if refusal::refuses(fit) {
-        return fit;
-    }
-    check_room(file, l, text, data)
-}
-
-// ROOM 2 of a move: the from plan's list, then the to plan's.
-fn check_lists(
-    file: &[u8],
-    l: Loadable,
-    from: Addresses,
-    from_imports: &[u64],
-    to: Addresses,
-    to_imports: &[u64],
-) -> Verdict
-    ensures { λ r. ⌜ r ≡ (listCheck (relocatableOf (now (file .entry)) l) (planOf from (now («from_imports» .entry))) orElse listCheck (relocatableOf (now (file .entry)) l) (planOf to (now («to_imports» .entry)))) ⌝ }
-{
-    let ft = from.text;
-    let fd = from.data;
-    let tt = to.text;
-    let td = to.data;
-    let v = plan::check_list(file, l, ft.0, fd.0, from_imports);
+    let v = check_plan(file, l, at, imports);
     if refusal::refuses(v) {
         return v;
     }
-    plan::check_list(file, l, tt.0, td.0, to_imports)
+    check_room(l, text, data)
+}
+
+// ROOM 2 of a move: the from plan's list, then the to plan's.
+fn check_lists(l: Loadable, from_imports: &[u64], to_imports: &[u64]) -> Verdict
+    ensures { λ r. ⌜ r ≡ (listRoom (l .tables .nsyms) (length (now («from_imports» .entry))) orElse listRoom (l .tables .nsyms) (length (now («to_imports» .entry)))) ⌝ }
+{
+    let v = plan::check_list(l, from_imports);
+    if refusal::refuses(v) {
+        return v;
+    }
+    plan::check_list(l, to_imports)
 }
 
 // PLAN of a move: the from plan, then the to plan.
@@ -116,9 +110,9 @@ pub fn check_move(
     data: usize,
 ) -> Verdict
     requires { ⌜ Valid (now file) l ⌝ }
-    ensures { λ r. ⌜ r ≡ callCheck (relocatableOf (now (file .entry)) l) text «data» (Call.move (planOf from (now («from_imports» .entry))) (planOf to (now («to_imports» .entry)))) ⌝ }
+    ensures { λ r. ⌜ r ≡ callCheck (relocatableOf (now (file .entry)) l) text «data» (move (planOf from (now («from_imports» .entry))) (planOf to (now («to_imports» .entry)))) ⌝ }
 {
-    let lists = check_lists(file, l, from, from_imports, to, to_imports);
+    let lists = check_lists(l, from_imports, to_imports);
     if refusal::refuses(lists) {
         return lists;
     }
@@ -126,5 +120,5 @@ pub fn check_move(
     if refusal::refuses(fits) {
         return fits;
     }
-    check_room(file, l, text, data)
+    check_room(l, text, data)
 }

@@ -5,7 +5,8 @@ use mathlib.Core.List.{List}
 use lib.Dec.{ltb}
 use Rattle.format.specs.declared.SymbolIndex.{SymbolIndex}
 use Rattle.refusal.specs.declared.Refusal.the-variants as refusal
-use Rattle.refusal.specs.Refusal.{numberOf, itemOf}
+use Rattle.refusal.specs.declared.Verdict.the-variants as verdict
+use Rattle.refusal.specs.Refusal.{reportHead}
 use Rattle.header.specs.Open.{openOf}
 use Rattle.symbol.specs.declared.Tables.{Tables}
 use Rattle.symbol.specs.declared.SymbolAnswer.{SymbolAnswer}
@@ -17,6 +18,7 @@ use Rattle.csect.specs.declared.Csect.{Csect}
 use Rattle.csect.specs.declared.CsectAnswer.{CsectAnswer}
 use Rattle.csect.specs.declared.CsectAnswer.the-variants.{Found, Refused}
 use Rattle.csect.specs.Csect.{ownAfter}
+use Rattle.csect_lookup.specs.declared.CsectReport.{CsectReport}
 use Rattle.refusal.specs.Order.{byVerdict}
 
 abbrev pub isSdType : CsectType → Bool
@@ -53,26 +55,18 @@ csectIn file t i = csectAfter file t i (symbolIn file t i)
 unfoldable pub csectAt : List ℕ → SymbolIndex → CsectAnswer
 csectAt file i = byVerdict (openOf file .verdict) (csectIn file (tablesOf (openOf file .summary)) i) Refused
 
--- document 01's number (0: accepted), item and values of the answer
 abbrev pub typeNumber : CsectType → ℕ
 typeNumber Er = 0
 typeNumber Sd = 1
 typeNumber Ld = 2
 typeNumber Cm = 3
 
-pub record CsectReport : Type 0 where
-  pub number : ℕ
-  pub item : ℕ
-  pub type : ℕ
-  pub align : ℕ
-  pub smclas : ℕ
-  pub length : ℕ
-
+-- the answer in document 01's numbers
 abbrev pub reportOfCsect : CsectAnswer → CsectReport
 reportOfCsect (Found c) =
-    record { number = 0; item = 0; type = typeNumber (c .kind); align = c .align; smclas = c .smclas; length = c .length }
+    record { head = reportHead verdict.Accepted; kind = typeNumber (c .kind); align = c .align; smclas = c .smclas; length = c .length }
 reportOfCsect (Refused x) =
-    record { number = numberOf x; item = itemOf x; type = 0; align = 0; smclas = 0; length = 0 }
+    record { head = reportHead (verdict.Refused x); kind = 0; align = 0; smclas = 0; length = 0 }
 
 abbrev pub csectReport : List ℕ → SymbolIndex → CsectReport
 csectReport file i = reportOfCsect (csectAt file i)

@@ -4,14 +4,25 @@ ghost use mathlib.Core.Bool.{cond};
 ghost use Rattle.format.specs.Range.{bytesOf};
 ghost use Rattle.word.specs.Zero.{ZeroEnd};
 ghost use Rattle.symbol.specs.Entry.{TablesInside};
-ghost use Rattle.csect_lookup.specs.Lookup.{isContained, isSd, csectIn, csectAt, reportOfCsect, csectReport};
+ghost use Rattle.csect_lookup.specs.Lookup.{isContained, isSd, csectIn, csectAt, typeNumber, reportOfCsect, csectReport};
 use csect::Csect;
 use csect::CsectAnswer;
 use csect::CsectType;
 use format::SymbolIndex;
+use refusal::Head;
 use refusal::Refusal;
 use refusal::Verdict;
 use symbol::Tables;
+
+// `kind` is 0 ER, 1 SD, 2 LD, 3 CM.
+#[repr(C)]
+pub struct CsectReport {
+    pub head: Head,
+    pub kind: u64,
+    pub align: u64,
+    pub smclas: u64,
+    pub length: u64,
+}
 
 fn is_sd(a: CsectAnswer) -> bool
     ensures { λ r. ⌜ r ≡ isSd a ⌝ }
@@ -76,6 +87,41 @@ pub fn csect_at(file: &[u8], i: SymbolIndex) -> CsectAnswer
             let strings = t.strings;
             let ends = symbol::names_end(file, strings);
             csect_in(file, t, ends, i)
+        }
+    }
+}
+
+fn type_number(k: CsectType) -> u64
+    ensures { λ r. ⌜ r ≡ typeNumber k ⌝ }
+{
+    match k {
+        CsectType::Er => 0,
+        CsectType::Sd => 1,
+        CsectType::Ld => 2,
+        CsectType::Cm => 3,
+    }
+}
+
+pub fn report_csect(a: CsectAnswer) -> CsectReport
+    ensures { λ r. ⌜ r ≡ reportOfCsect a ⌝ }
+{
+    match a {
+        CsectAnswer::Refused(x) => CsectReport {
+            head: refusal::report_head(Verdict::Refused(x)),
+            kind: 0,
+            align: 0,
+            smclas: 0,
+            length: 0,
+        },
+        CsectAnswer::Found(c) => {
+            let kind = c.kind;
+            CsectReport {
+                head: refusal::report_head(Verdict::Accepted),
+                kind: type_number(kind),
+                align: c.align,
+                smclas: c.smclas,
+                length: c.length,
+            }
         }
     }
 }

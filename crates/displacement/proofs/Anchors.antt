@@ -15,9 +15,8 @@ use Rattle.loadable.specs.declared.Loadable.{Loadable}
 use Rattle.history.specs.declared.AnchorAddress.{AnchorAddress}
 use Rattle.history.specs.declared.AnchorAddress.the-variants.{Nowhere, At}
 use Rattle.history.specs.Plan.{displacementOf, movedAddress, reachedBy}
-use Rattle.plan.specs.Relocatable.{anchorFollows, relocatableOf}
-use Rattle.apply.specs.Shift.{StandsFor}
-use Rattle.apply.proofs.Stands.{narrowed}
+use Rattle.plan.specs.Relocatable.{anchored, relocatableOf}
+use Rattle.apply.proofs.Stands.{narrowed, stands}
 use Rattle.displacement.specs.declared.Addresses.{Addresses}
 use Rattle.displacement.specs.Reach.{IsMoved, IsReached}
 
@@ -41,11 +40,11 @@ sum-32 f a d s e h = rw (e, h) (mod-mod-of-dvd 4294967296 (a + d) (limit-divides
 pub sum-64 : (f : Format) (a d s : ℕ) → f ≡ Xcoff64 → s ≡ (a + d) % 2 ^ 64 → s ≡ (a + d) % addressLimit f
 sum-64 f a d s e h = rw (e, h) refl
 
--- the sum with a number that stands for an exact displacement is the exact sum, which drops at the limit
-sum-exact : (f : Format) (a d : ℕ) (z : ℤ) → StandsFor d z → (a + d) % addressLimit f ≡ remainder (pos a +ℤ z) (addressLimit f)
+-- the sum with an exact displacement modulo 2^64 is the exact sum, which drops at the limit
+sum-exact : (f : Format) (a d : ℕ) (z : ℤ) → d ≡ remainder z (2 ^ 64) → (a + d) % addressLimit f ≡ remainder (pos a +ℤ z) (addressLimit f)
 sum-exact f a d z h =
     let m : ℕ = addressLimit f in
-    let same : remainder (pos d) m ≡ remainder z m = narrowed m (limit-positive f) (limit-divides f) (pos d) z h in
+    let same : remainder (pos d) m ≡ remainder z m = narrowed m (limit-positive f) (limit-divides f) (pos d) z (stands d z h) in
     exact a d m ∙ ap (λ (k : ℤ). remainder k m) (+ℤ-comm (pos a) (pos d)) ∙ remainder-cong m (limit-positive f) (pos d) z (pos a) same
     ∙ ap (λ (k : ℤ). remainder k m) (+ℤ-comm z (pos a))
   where
@@ -57,22 +56,22 @@ sum-exact f a d z h =
 module _ (l : Loadable) (a : Anchor) (at : Addresses) where
   -- section 0 means that there is none
   pub anchor-nowhere : a .section .0 ≡ 0 → IsMoved l a at Nowhere
-  unfolding anchorFollows movedAddress
+  unfolding anchored movedAddress
   anchor-nowhere e file list = rw (eq-eqb (a .section .0) 0 e) refl
 
   module _ (d r : ℕ) (here : a .section .0 ≡ 0 → ⊥) (sum : r ≡ (a .address .0 + d) % addressLimit (l .layout .format)) where
     -- an anchor in text moves with text
-    pub anchor-text : a .section .0 ≡ l .layout .parts .text .number .0 → StandsFor d (pos (at .text .0) -ℤ pos (l .layout .parts .text .address .0))
+    pub anchor-text : a .section .0 ≡ l .layout .parts .text .number .0 → d ≡ remainder (pos (at .text .0) -ℤ pos (l .layout .parts .text .address .0)) (2 ^ 64)
         → IsMoved l a at (At (record { 0 = r }))
-    unfolding anchorFollows movedAddress displacementOf relocatableOf
+    unfolding anchored movedAddress displacementOf relocatableOf
     anchor-text e s file list =
         rw (ne-eqb (a .section .0) 0 here, eq-eqb (a .section .0) (l .layout .parts .text .number .0) e)
         (ap (λ (x : ℕ). At (record { 0 = x })) (sum ∙ sum-exact (l .layout .format) (a .address .0) d _ s))
 
     -- any other moves with data
     pub anchor-data : (a .section .0 ≡ l .layout .parts .text .number .0 → ⊥)
-        → StandsFor d (pos (at .«data» .0) -ℤ pos (l .layout .parts .«data» .address .0)) → IsMoved l a at (At (record { 0 = r }))
-    unfolding anchorFollows movedAddress displacementOf relocatableOf
+        → d ≡ remainder (pos (at .«data» .0) -ℤ pos (l .layout .parts .«data» .address .0)) (2 ^ 64) → IsMoved l a at (At (record { 0 = r }))
+    unfolding anchored movedAddress displacementOf relocatableOf
     anchor-data e s file list =
         rw (ne-eqb (a .section .0) 0 here, ne-eqb (a .section .0) (l .layout .parts .text .number .0) e)
         (ap (λ (x : ℕ). At (record { 0 = x })) (sum ∙ sum-exact (l .layout .format) (a .address .0) d _ s))

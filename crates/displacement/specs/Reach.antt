@@ -8,7 +8,7 @@ use Rattle.history.specs.declared.AnchorAddress.{AnchorAddress}
 use Rattle.history.specs.declared.AnchorAddress.the-variants.{Nowhere, At}
 use Rattle.history.specs.declared.Reached.{Reached}
 use Rattle.history.specs.Plan.{Plan, movedAddress, reachedBy}
-use Rattle.plan.specs.Relocatable.{anchorFollows, relocatableOf}
+use Rattle.plan.specs.Relocatable.{anchored, relocatableOf}
 use Rattle.displacement.specs.declared.Addresses.{Addresses}
 
 -- a plan by its two addresses and its list
@@ -27,7 +27,7 @@ addressOf (At a) = a .0
 -- r is the address of the entry point or the TOC anchor a
 abbrev pub IsMoved : Loadable → Anchor → Addresses → AnchorAddress → Type 0
 IsMoved l a at r =
-    (file list : List ℕ) → r ≡ movedAddress (relocatableOf file l) (planOf at list) (anchorFollows (l .layout .parts) a) (a .address .0)
+    (file list : List ℕ) → r ≡ movedAddress (relocatableOf file l) (planOf at list) (anchored (l .layout .parts) a)
 
 -- r has both
 abbrev pub IsReached : Loadable → Addresses → Reached → Type 0

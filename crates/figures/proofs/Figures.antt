@@ -43,7 +43,7 @@ Holds P5 = addField 8 0 (pos 0xFFFFFFFFF0000000) (0x00 ∷ 0x00 ∷ 0x00 ∷ 0x0
 Holds P6 = addField 4 0 (pos 0x100000008) (0x00 ∷ 0x00 ∷ 0x00 ∷ 0x01 ∷ []) ≡ 0x00 ∷ 0x00 ∷ 0x00 ∷ 0x09 ∷ []
 Holds P7 = (subtracts 0x3F01 ≡ true) × (widthBits 0x3F01 ≡ 64) × (isWidth Xcoff64 (widthBits 0x3F01) ≡ true)
 Holds P8 =
-    (f : Format) (p : Parts) (nsyms i : ℕ) (e : RelocationEntry) → e .rtype ≡ 0x0F00 → isThread e ≡ false → ownCheck f p nsyms i e ≡ verdict.Refused (Lrel i)
+    (f : Format) (p : Parts) (nsyms i : ℕ) (e : RelocationEntry) → e .rtype ≡ 0x0F00 → isThread e ≡ false → ownCheck f p nsyms i e ≡ verdict.Refused (Lrel (record { 0 = i }))
 Holds P9 =
     (f : Format) (len : ℕ) (h : SectionHeader) (n : SectionNumber)
     → (h .flags ≡ 0x00000060 → judgeSection f len h n ≡ section-answer.Refused (Kind n)) × (kindOf 0x00020010 ≡ Allowed Dwarf) × (h .flags ≡ 0x00010020 → judgeSection f len h n ≡ section-answer.Refused (Kind n))

@@ -152,3 +152,8 @@ relocationLayout Xcoff64 = record { address = field 0 Eight; symbol = field 12 F
 abbrev pub addressLimit : Format → ℕ
 addressLimit Xcoff32 = 2 ^ 32
 addressLimit Xcoff64 = 2 ^ 64
+
+-- how many bits an address has
+abbrev pub bitsOf : Format → ℕ
+bitsOf Xcoff32 = 32
+bitsOf Xcoff64 = 64

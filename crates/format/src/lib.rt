@@ -5,7 +5,7 @@ ghost use lib.ListN.{length};
 ghost use Rattle.word.specs.Number.{bytesIn};
 ghost use Rattle.format.specs.Name.{nameField};
 ghost use Rattle.format.specs.Range.{textIn};
-ghost use Rattle.format.specs.Layout.{formatOf, headerLayout, sectionLayout, auxLayout, auxNumbers, symbolLayout, loaderLayout, relocationLayout, addressLimit};
+ghost use Rattle.format.specs.Layout.{formatOf, headerLayout, sectionLayout, auxLayout, auxNumbers, symbolLayout, loaderLayout, relocationLayout, addressLimit, bitsOf};
 use word::Field;
 
 // What is above a limit is refused.
@@ -345,5 +345,15 @@ pub fn text_in(file: &[u8], base: usize, f: Field) -> FileRange
     FileRange {
         start: FileOffset(start as u64),
         length: word::first_zero(&file[start..end]) as u64,
+    }
+}
+
+// How many bits an address has.
+pub fn bits_of(f: Format) -> u64
+    ensures { λ r. ⌜ r ≡ bitsOf f ⌝ }
+{
+    match f {
+        Format::Xcoff32 => 32,
+        Format::Xcoff64 => 64,
     }
 }

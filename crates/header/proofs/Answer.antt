@@ -23,7 +23,7 @@ use Rattle.file_tables.specs.declared.Scan.{Scan}
 use Rattle.header.specs.declared.Summary.{Summary}
 use Rattle.file_header.specs.Header.{headerAt, headerCheck}
 use Rattle.file_tables.specs.Tables.{sectionsCheck, sectionsOf, refusedScan, scanBy, scanOf, symbolsCheck}
-use Rattle.header.specs.Open.{refusedBy, openedBy, summaryWith, openAs, openBy, openOf, reportOfOpened, openReport}
+use Rattle.header.specs.Open.{refusedBy, openedBy, summaryWith, openAs, openBy, openOf}
 
 pub opened-refused : (v : Verdict) (y : Summary) → isRefused v ≡ true → refusedBy v ≡ openedBy v y
 unfolding openedBy
@@ -90,7 +90,3 @@ module _ (file : List ℕ) where
   pub open-by : length file ≤ fileLimit → 2 ≤ length file → (a : MagicAnswer) → formatOf (fieldIn magicField 0 file) ≡ a → openBy file a ≡ openOf file
   unfolding openOf
   open-by h k a e = rw (le-ltb fileLimit (length file) h, le-ltb (length file) 2 k, e)
-
-  -- an answer with its report
-  pub reported : {r : Opened} → r ≡ openOf file → (r ≡ openOf file) × (reportOfOpened r ≡ openReport file)
-  reported e = (e, ap reportOfOpened e)

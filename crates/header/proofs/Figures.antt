@@ -10,11 +10,12 @@ use Rattle.format.specs.declared.Format.the-variants.{Xcoff32}
 use Rattle.section_kind.specs.declared.SectionKind.the-variants.{Text}
 use Rattle.section_kind.specs.Kind.{listedKind, kindOf}
 use Rattle.format.specs.Layout.{formatOf}
+use Rattle.refusal.specs.declared.Verdict.the-variants.{Accepted}
 use Rattle.refusal.specs.Order.{firstOf}
 use Rattle.section.specs.Section.{sectionHeaderAt, hasRawData, rawDataPast, misplaced, sectionOf, judgeKind, judgeSection}
 use Rattle.file_header.specs.Header.{headerAt, sectionStart, headerCheck}
 use Rattle.file_tables.specs.Tables.{blankSections, judgedAt, sectionsCheck, sectionsOf, symbolsCheck, tableAt, symbolTable}
-use Rattle.header.specs.Open.{openedBy, summaryWith, openAs, openBy, openOf, openReport}
+use Rattle.header.specs.Open.{openedBy, summaryWith, openAs, openBy, openOf}
 
 -- 64 bytes: the magic number, one section, zeros to byte 20; `.text` padded to 8, 10000000 twice, size 4, pointer 60, zeros, flags 20; four bytes
 unfoldable pub example : List ℕ
@@ -28,9 +29,8 @@ example =
     ++ (0 ∷ 0 ∷ 0 ∷ 0x20 ∷ [])
     ++ (1 ∷ 2 ∷ 3 ∷ 4 ∷ [])
 
-pub example-opens : openReport example ≡ record {
-  number = 0;
-  item = 0;
+pub example-opens : openOf example ≡ record {
+  verdict = Accepted;
   summary = record {
     format = Xcoff32;
     count = 1;

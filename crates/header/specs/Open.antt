@@ -9,18 +9,19 @@ use Rattle.format.specs.declared.Format.{Format}
 use Rattle.format.specs.declared.Format.the-variants.{Xcoff32}
 use Rattle.format.specs.declared.MagicAnswer.{MagicAnswer}
 use Rattle.format.specs.declared.MagicAnswer.the-variants.{Known, Unknown}
-use Rattle.format.specs.Layout.{magicField, formatOf}
+use Rattle.format.specs.Layout.{magicField, formatOf, bitsOf}
 use Rattle.format.specs.Limit.{fileLimit}
 use Rattle.refusal.specs.declared.Refusal.the-variants.{Short, Magic, Limit}
 use Rattle.refusal.specs.declared.LimitItem.the-variants.{File}
 use Rattle.refusal.specs.declared.Verdict.{Verdict}
 use Rattle.refusal.specs.declared.Verdict.the-variants.{Accepted, Refused}
-use Rattle.refusal.specs.Refusal.{reportNumber, reportItem}
-use Rattle.refusal.specs.Order.{_orElse_}
+use Rattle.refusal.specs.Refusal.{reportHead}
+use Rattle.refusal.specs.Order.{_orElse_, ifAccepted}
 use Rattle.section.specs.declared.Section.{Section}
 use Rattle.file_header.specs.declared.FileHeader.{FileHeader}
 use Rattle.header.specs.declared.Summary.{Summary}
 use Rattle.header.specs.declared.Opened.{Opened}
+use Rattle.header.specs.declared.OpenReport.{OpenReport}
 use Rattle.file_header.specs.Header.{headerAt, headerCheck}
 use Rattle.file_tables.specs.Tables.{blankSections, sectionsCheck, sectionsOf, symbolsCheck, tableAt, symbolTable}
 
@@ -67,14 +68,17 @@ openOf file =
     (cond (ltb (length file) 2) (refusedBy (Refused Short))
     (openBy file (formatOf (fieldIn magicField 0 file))))
 
--- document 01's number (0: accepted), item and values of the answer
-pub record OpenReport : Type 0 where
-  pub number : ℕ
-  pub item : ℕ
-  pub summary : Summary
-
+-- the answer in document 01's numbers; a blank summary has a format, and a refused file none
 abbrev pub reportOfOpened : Opened → OpenReport
-reportOfOpened o = record { number = reportNumber (o .verdict); item = reportItem (o .verdict); summary = o .summary }
+reportOfOpened o =
+    record {
+      head = reportHead (o .verdict);
+      bits = ifAccepted (o .verdict) (bitsOf (o .summary .format)) 0;
+      sections = o .summary .count;
+      symbols = o .summary .symbols .count;
+      opthdr = o .summary .opthdr;
+      flags = o .summary .flags;
+    }
 
 abbrev pub openReport : List ℕ → OpenReport
 openReport file = reportOfOpened (openOf file)

@@ -1,5 +1,7 @@
 // Opening a file: its headers are judged in the order of document 01, and a summary by value is handed back.
 ghost use mathlib.Core.Path.{_≡_};
+ghost use Rattle.format.specs.Layout.{bitsOf};
+ghost use Rattle.refusal.specs.Order.{ifAccepted};
 ghost use Rattle.file_header.specs.Header.{Bounded};
 ghost use Rattle.file_tables.specs.Tables.{symbolsCheck};
 ghost use Rattle.header.specs.Open.{refusedBy, openedBy, summaryWith, openAs, openOf, openReport, reportOfOpened};
@@ -9,6 +11,7 @@ use format::FileOffset;
 use format::FileRange;
 use format::Format;
 use format::MagicAnswer;
+use refusal::Head;
 use refusal::LimitItem;
 use refusal::Refusal;
 use refusal::Verdict;
@@ -27,6 +30,17 @@ pub struct Summary {
 pub struct Opened {
     pub verdict: Verdict,
     pub summary: Summary,
+}
+
+// `bits` is 32 or 64; `symbols` counts the symbol table's entries, auxiliaries included.
+#[repr(C)]
+pub struct OpenReport {
+    pub head: Head,
+    pub bits: u64,
+    pub sections: u64,
+    pub symbols: u64,
+    pub opthdr: u64,
+    pub flags: u64,
 }
 
 fn refuse(v: Verdict) -> Opened
@@ -114,5 +128,32 @@ pub fn open(file: &[u8]) -> Opened
     match a {
         MagicAnswer::Unknown => refuse(Verdict::Refused(Refusal::Magic)),
         MagicAnswer::Known(f) => open_as(file, f),
+    }
+}
+
+// A refused file has no format.
+fn bits_by(v: Verdict, f: Format) -> u64
+    ensures { λ r. ⌜ r ≡ ifAccepted v (bitsOf f) 0 ⌝ }
+{
+    match v {
+        Verdict::Accepted => format::bits_of(f),
+        Verdict::Refused(_) => 0,
+    }
+}
+
+pub fn report_open(o: Opened) -> OpenReport
+    ensures { λ r. ⌜ r ≡ reportOfOpened o ⌝ }
+{
+    let y = o.summary;
+    let symbols = y.symbols;
+    let f = y.format;
+    let v = o.verdict;
+    OpenReport {
+        head: refusal::report_head(v),
+        bits: bits_by(v, f),
+        sections: y.count,
+        symbols: symbols.count,
+        opthdr: y.opthdr,
+        flags: y.flags,
     }
 }

@@ -6,8 +6,8 @@ use mathlib.Core.List.{List, [], _∷_}
 use Prim.Native.Nat.{ℕ, _+_, _≤_, _<_}
 use native.Mathlib.Decide.{decLe, decLt}
 use native.Mathlib.Omega.{arith}
-use lib.ListN.{getD}
-use lib.IntN.{ℤ, pos, _+ℤ_, +ℤ-comm, negℤ-+ℤ}
+use lib.ListN.{length, getD}
+use lib.IntN.{ℤ, pos, _+ℤ_, negℤ-+ℤ}
 use Rattle.update.specs.Update.{Apart, Bytes}
 use Rattle.update.proofs.Laws.{length-add, add-add, add-apart, add-zero, add-outside}
 use Rattle.relocation.specs.declared.FieldPlace.{FieldPlace}
@@ -15,17 +15,24 @@ use Rattle.relocation.specs.Relocation.{bytesWide}
 use Rattle.clash.specs.Overlap.{Compatible}
 use Rattle.clash.specs.Overlap.Compatible.{otherSection, same, before, after}
 use Rattle.history.specs.declared.Relocation.{Relocation}
-use Rattle.history.specs.Images.{Images, images, Shifts, signed, addAt, applyEntry, applyAll, lengthOf, All, Inside, Pairwise, imageOf, InField}
+use Rattle.book.specs.Machine.{sum}
+use Rattle.book.specs.Entries as entries
+use Rattle.book.proofs.Entries as composition
+use Rattle.book.proofs.Entries.{FieldLaws}
+use Rattle.history.specs.Images.{Images, images, lengths, fields, Shifts, signed, addAt, applyEntry, applyAll, lengthOf, All, Inside, Pairwise, imageOf, InField}
 
 -- ---- one field changed
 
 -- a field added to keeps both lengths
-addAt-length : (t u : Bool) (w off : ℕ) (z : ℤ) (x : Images) → lengthOf u (addAt t w off z x) ≡ lengthOf u x
+addAt-lengths : (t : Bool) (w off : ℕ) (z : ℤ) (x : Images) → lengths (addAt t w off z x) ≡ lengths x
 unfolding addAt
-addAt-length true true w off z x = length-add w off z (x .text)
-addAt-length true false w off z x = refl
-addAt-length false true w off z x = refl
-addAt-length false false w off z x = length-add w off z (x .dat)
+addAt-lengths true w off z x = ap (λ (n : ℕ). (n, length (x .dat))) (length-add w off z (x .text))
+addAt-lengths false w off z x = ap (λ (n : ℕ). (length (x .text), n)) (length-add w off z (x .dat))
+
+-- images of the same lengths have either length the same
+length-in : (u : Bool) (x y : Images) → lengths x ≡ lengths y → lengthOf u x ≡ lengthOf u y
+length-in true x y e = ap (λ (l : ℕ × ℕ). l .0) e
+length-in false x y e = ap (λ (l : ℕ × ℕ). l .1) e
 
 -- a then b is their sum
 addAt-add : (t : Bool) (w off : ℕ) (a b : ℤ) (x : Images) → off + w ≤ lengthOf t x → addAt t w off b (addAt t w off a x) ≡ addAt t w off (a +ℤ b) x
@@ -47,12 +54,6 @@ addAt-other true true w off w′ off′ a b x h = absurd (h refl)
 addAt-other true false w off w′ off′ a b x h = refl
 addAt-other false true w off w′ off′ a b x h = refl
 addAt-other false false w off w′ off′ a b x h = absurd (h refl)
-
--- changes of one field can change places
-addAt-same : (t : Bool) (w off : ℕ) (a b : ℤ) (x : Images) → off + w ≤ lengthOf t x
-    → addAt t w off a (addAt t w off b x) ≡ addAt t w off b (addAt t w off a x)
-addAt-same t w off a b x h =
-    addAt-add t w off b a x h ∙ ap (λ (z : ℤ). addAt t w off z x) (+ℤ-comm b a) ∙ sym (addAt-add t w off a b x h)
 
 -- changes of fields that share no byte can change places
 addAt-apart : (t : Bool) (w off w′ off′ : ℕ) (a b : ℤ) (x : Images) → Apart off w off′ w′
@@ -80,33 +81,39 @@ addTo f z x = addAt (f .text) (bytesWide (f .wide)) (f .offset) z x
 abbrev Holds : Images → FieldPlace → Type 0
 Holds x f = f .offset + bytesWide (f .wide) ≤ lengthOf (f .text) x
 
--- changes of compatible fields can change places
-addTo-compatible : (f g : FieldPlace) (a b : ℤ) (x : Images) → Compatible f g → Holds x f → addTo f a (addTo g b x) ≡ addTo g b (addTo f a x)
-addTo-compatible f g a b x (otherSection h) i =
+-- fields of different images, or that share no byte
+abbrev PlacesApart : FieldPlace → FieldPlace → Type 0
+PlacesApart f g =
+    (f .text ≡ g .text → ⊥) ⊎ ((f .text ≡ g .text) × Apart (f .offset) (bytesWide (f .wide)) (g .offset) (bytesWide (g .wide)))
+
+-- compatible fields are the same or apart
+same-or-apart : (f g : FieldPlace) → Compatible f g → (f ≡ g) ⊎ PlacesApart f g
+same-or-apart f g (otherSection h) = inr (inl h)
+same-or-apart f g (same e) = inl e
+same-or-apart f g (before e h) = inr (inr (e, inl h))
+same-or-apart f g (after e h) = inr (inr (e, inr h))
+
+-- changes of fields apart can change places
+addTo-apart : (f g : FieldPlace) (a b : ℤ) (x : Images) → PlacesApart f g → addTo f a (addTo g b x) ≡ addTo g b (addTo f a x)
+addTo-apart f g a b x (inl h) =
     addAt-other (f .text) (g .text) (bytesWide (f .wide)) (f .offset) (bytesWide (g .wide)) (g .offset) a b x h
-addTo-compatible f g a b x (same e) i = rw (← e) (addAt-same (f .text) (bytesWide (f .wide)) (f .offset) a b x i)
-addTo-compatible f g a b x (before e h) i =
-    rw (← e) (addAt-apart (f .text) (bytesWide (f .wide)) (f .offset) (bytesWide (g .wide)) (g .offset) a b x (inl h))
-addTo-compatible f g a b x (after e h) i =
-    rw (← e) (addAt-apart (f .text) (bytesWide (f .wide)) (f .offset) (bytesWide (g .wide)) (g .offset) a b x (inr h))
+addTo-apart f g a b x (inr h) =
+    rw (← (h .0)) (addAt-apart (f .text) (bytesWide (f .wide)) (f .offset) (bytesWide (g .wide)) (g .offset) a b x (h .1))
 
 -- ---- lengths
 
--- an entry applied keeps both lengths
-entry-length : (u : Bool) (e : Relocation) (s : Shifts) (x : Images) → lengthOf u (applyEntry e s x) ≡ lengthOf u x
-unfolding applyEntry
-entry-length u e s x = addAt-length (e .place .text) u (bytesWide (e .place .wide)) (e .place .offset) (signed (e .minus) (s (e .symbol))) x
-
 -- entries applied keep both lengths
-pub applyAll-length : (u : Bool) (es : List Relocation) (s : Shifts) (x : Images) → lengthOf u (applyAll es s x) ≡ lengthOf u x
+pub applyAll-lengths : (es : List Relocation) (s : Shifts) (x : Images) → lengths (applyAll es s x) ≡ lengths x
 unfolding applyAll
-applyAll-length u [] s x = refl
-applyAll-length u (e ∷ es) s x = applyAll-length u es s (applyEntry e s x) ∙ entry-length u e s x
+applyAll-lengths [] s x = refl
+applyAll-lengths (e ∷ es) s x =
+    applyAll-lengths es s (applyEntry e s x)
+    ∙ addAt-lengths (e .place .text) (bytesWide (e .place .wide)) (e .place .offset) (signed (e .minus) (s (e .symbol))) x
 
 -- entries are inside any images of the same lengths
-pub inside-lengths : (es : List Relocation) (x y : Images) → ((u : Bool) → lengthOf u x ≡ lengthOf u y) → All (Inside x) es → All (Inside y) es
+pub inside-lengths : (es : List Relocation) (x y : Images) → lengths x ≡ lengths y → All (Inside x) es → All (Inside y) es
 inside-lengths [] x y h i = tt
-inside-lengths (e ∷ es) x y h i = (rw (h (e .place .text)) at (i .0), inside-lengths es x y h (i .1))
+inside-lengths (e ∷ es) x y h i = (rw (length-in (e .place .text) x y h) at (i .0), inside-lengths es x y h (i .1))
 
 -- ---- all entries by s and then all by t
 
@@ -115,36 +122,32 @@ signed-add : (m : Bool) (a b : ℤ) → signed m a +ℤ signed m b ≡ signed m 
 signed-add true a b = sym (negℤ-+ℤ a b)
 signed-add false a b = refl
 
--- an entry by s and then by t is it by s + t
-entry-add : (e : Relocation) (s t : Shifts) (x : Images) → Inside x e → applyEntry e t (applyEntry e s x) ≡ applyEntry e (λ i. s i +ℤ t i) x
-unfolding applyEntry
-entry-add e s t x i =
-    addAt-add (e .place .text) (bytesWide (e .place .wide)) (e .place .offset) (signed (e .minus) (s (e .symbol))) (signed (e .minus) (t (e .symbol))) x i
-    ∙ ap (λ (z : ℤ). addTo (e .place) z x) (signed-add (e .minus) (s (e .symbol)) (t (e .symbol)))
+-- what composition asks of a module's fields
+abbrev fieldLaws : FieldLaws fields
+fieldLaws =
+    record {
+      Inside = Holds;
+      Apart = PlacesApart;
+      inside-add = λ p q a x i. rw (length-in (p .text) (addTo q a x) x (addAt-lengths (q .text) (bytesWide (q .wide)) (q .offset) a x)) i;
+      add-add = λ p a b x i. addAt-add (p .text) (bytesWide (p .wide)) (p .offset) a b x i;
+      add-apart = addTo-apart;
+      amount-sum = λ e s t. signed-add (e .minus) (s (e .symbol)) (t (e .symbol));
+    }
 
--- an entry goes past entries that are compatible with it
-entry-past : (e : Relocation) (t : Shifts) (es : List Relocation) (s : Shifts) (x : Images) → All (λ f. Compatible (e .place) (f .place)) es → Inside x e
-    → applyEntry e t (applyAll es s x) ≡ applyAll es s (applyEntry e t x)
-unfolding applyAll applyEntry
-entry-past e t [] s x c i = refl
-entry-past e t (f ∷ es) s x c i =
-    entry-past e t es s (applyEntry f s x) (c .1) (rw (entry-length (e .place .text) f s x) i)
-    ∙ ap (λ (y : Images). applyAll es s y)
-    (addTo-compatible (e .place) (f .place) (signed (e .minus) (t (e .symbol))) (signed (f .minus) (s (f .symbol))) x (c .0) i)
+-- compatible entries are so in the general law's words
+all-either : (e : Relocation) (es : List Relocation) → All (λ f. Compatible (e .place) (f .place)) es → All (composition.Compatible fields fieldLaws e) es
+all-either e [] c = tt
+all-either e (f ∷ es) c = (same-or-apart (e .place) (f .place) (c .0), all-either e es (c .1))
+
+pairwise-either : (es : List Relocation) → Pairwise es → entries.Pairwise (composition.Compatible fields fieldLaws) es
+pairwise-either [] p = tt
+pairwise-either (e ∷ es) p = (all-either e es (p .0), pairwise-either es (p .1))
 
 -- all entries by s and then all by t are all by s + t
 pub applyAll-add : (es : List Relocation) (s t : Shifts) (x : Images) → All (Inside x) es → Pairwise es
-    → applyAll es t (applyAll es s x) ≡ applyAll es (λ i. s i +ℤ t i) x
+    → applyAll es t (applyAll es s x) ≡ applyAll es (sum s t) x
 unfolding applyAll
-applyAll-add [] s t x i p = refl
-applyAll-add (e ∷ es) s t x i p =
-    let y : Images = applyEntry e s x in
-    ap (λ (z : Images). applyAll es t z) (entry-past e t es s y (p .0) (rw (entry-length (e .place .text) e s x) (i .0)))
-    ∙ applyAll-add es s t (applyEntry e t y) (inside-lengths es x (applyEntry e t y) lengths (i .1)) (p .1)
-    ∙ ap (λ (z : Images). applyAll es (λ i. s i +ℤ t i) z) (entry-add e s t x (i .0))
-  where
-    lengths : (u : Bool) → lengthOf u x ≡ lengthOf u (applyEntry e t (applyEntry e s x))
-    lengths u = sym (entry-length u e t (applyEntry e s x) ∙ entry-length u e s x)
+applyAll-add es s t x i p = composition.applyAll-add fields fieldLaws es s t x i (pairwise-either es p)
 
 -- ---- shifts that are 0
 

@@ -4,6 +4,7 @@ use mathlib.Core.Bool.{true, false}
 use mathlib.Core.List.{List}
 use Prim.Native.Nat.{ℕ}
 use lib.ListN.{length}
+use lib.IntN.{pos, _-ℤ_}
 use Rattle.refusal.specs.declared.Refusal.{Refusal}
 use Rattle.refusal.specs.declared.Verdict.the-variants.{Accepted, Refused}
 use Rattle.loadable.specs.declared.Loadable.{Loadable}
@@ -16,11 +17,11 @@ use Rattle.history.specs.declared.Reached.{Reached}
 use Rattle.history.specs.declared.CallAnswer.{CallAnswer}
 use Rattle.history.specs.declared.CallAnswer.the-variants as answer
 use Rattle.history.specs.Images.{Images, applyAll}
-use Rattle.history.specs.Plan.{Relocatable, Plan, planCheck, builtImages, displacements, reachedBy}
-use Rattle.history.specs.Call.{Call, build, planReached, callCheck, accepted, effect, answerOf}
+use Rattle.history.specs.Plan.{Relocatable, Plan, planCheck, displacements, reachedBy}
+use Rattle.history.specs.Call.{Call, build, move, planReached, callCheck, accepted, effect, answerOf}
 use Rattle.plan.specs.Relocatable.{relocationsFrom, relocatableOf, noModule, relocatableBy, relocatableAt}
-use Rattle.apply.specs.Shift.{shiftsBy}
-use Rattle.apply.proofs.Exact.{Built, Moved, built-exact, moved-exact}
+use Rattle.apply.specs.Shift.{shiftOf, Displaced, ForPlans}
+use Rattle.apply.proofs.Exact.{built-exact, moved-exact}
 use Rattle.image.specs.Report.{reportOfCall}
 
 -- ---- a call of an accepted module
@@ -41,22 +42,23 @@ module _ (m : Relocatable) (c : Call) (x : Images) where
   unfolding answerOf effect
   call-done r y e h k = (rw e (ap answer.Done h), rw e k)
 
-module _ (file : List ℕ) (l : Loadable) (v : Valid file l) (d : List ℕ) (x y : Images) where
-  -- the raw images with each entry applied by numbers that stand for the plan's displacements are what a build leaves
-  pub build-leaves : (p : Plan) (z : Images) → Built file l d p → z ≡ relocatableOf file l .raw
-      → y ≡ applyAll (relocationsFrom file l 0 (l .tables .nreloc)) (shiftsBy file l d false (p .list) (p .list)) z
+module _ (file : List ℕ) (l : Loadable) (d : List ℕ) (x y : Images) where
+  -- the raw images with each entry applied by the plan's displacements are what a build leaves
+  pub build-leaves : (p : Plan) (z : Images)
+      → Displaced d (pos (p .text) -ℤ pos (l .layout .parts .text .address .0)) (pos (p .dat) -ℤ pos (l .layout .parts .«data» .address .0))
+      → z ≡ relocatableOf file l .raw
+      → ForPlans (relocatableOf file l) d false (p .list) (p .list) (λ s. y ≡ applyAll (relocationsFrom file l 0 (l .tables .nreloc)) s z)
       → y ≡ accepted (relocatableOf file l) (build p) x
-  unfolding accepted builtImages
+  unfolding accepted shiftOf displacements relocatableOf
   build-leaves p z h r e =
-      e ∙ built-exact file l d p h (p .list) v z
-      ∙ ap (applyAll (relocatableOf file l .entries) (displacements (relocatableOf file l) p)) r
+      e p p refl refl (built-exact file l d p p h) ∙ ap (applyAll (relocatableOf file l .entries) (displacements (relocatableOf file l) p)) r
 
-  -- the buffers with each entry applied by numbers that stand for the differences are what a move leaves
-  pub move-leaves : (p q : Plan) → Moved file l d p q
-      → y ≡ applyAll (relocationsFrom file l 0 (l .tables .nreloc)) (shiftsBy file l d true (p .list) (q .list)) x
-      → y ≡ accepted (relocatableOf file l) (Call.move p q) x
-  unfolding accepted
-  move-leaves p q h e = e ∙ moved-exact file l d p q h v x
+  -- the buffers with each entry applied by what the plans' displacements differ by are what a move leaves
+  pub move-leaves : (p q : Plan) → Displaced d (pos (q .text) -ℤ pos (p .text)) (pos (q .dat) -ℤ pos (p .dat))
+      → ForPlans (relocatableOf file l) d true (p .list) (q .list) (λ s. y ≡ applyAll (relocationsFrom file l 0 (l .tables .nreloc)) s x)
+      → y ≡ accepted (relocatableOf file l) (move p q) x
+  unfolding accepted shiftOf displacements relocatableOf
+  move-leaves p q h e = e p q refl refl (moved-exact (relocatableOf file l) d p q h)
 
 -- ---- a call of any file
 
@@ -81,7 +83,7 @@ module _ (file : List ℕ) {a : LoadableAnswer} (e : a ≡ loadableAt file) wher
   none-refused : (x : Refusal) (tl dl : ℕ) (c : Call) → callCheck (noModule x) tl dl c ≡ Refused x
   unfolding callCheck planCheck noModule
   none-refused x tl dl (build p) = refl
-  none-refused x tl dl (Call.move p q) = refl
+  none-refused x tl dl (move p q) = refl
 
   -- the module is refused
   pub file-refused : (c : Call) (x : Images) (r : Refusal) → a ≡ loadable.Refused r → Reports c x (answer.Refused r) x

@@ -4,7 +4,7 @@ ghost use Prim.Native.Nat.{_-_};
 ghost use lib.ListN.{length};
 ghost use Rattle.loadable.specs.Valid.{Valid};
 ghost use Rattle.history.specs.Images.{images};
-ghost use Rattle.history.specs.Call.{Call, build, answerOf, effect};
+ghost use Rattle.history.specs.Call.{Call, build, move, answerOf, effect};
 ghost use Rattle.plan.specs.Relocatable.{relocatableOf, relocatableAt};
 ghost use Rattle.displacement.specs.Reach.{planOf};
 ghost use Rattle.image.specs.Report.{reportOfCall};
@@ -12,7 +12,18 @@ use displacement::Addresses;
 use history::CallAnswer;
 use loadable::Loadable;
 use loadable::LoadableAnswer;
+use refusal::Head;
 use refusal::Verdict;
+
+// The entry and TOC addresses in the plan that the call reached; `hasentry` and `hastoc` are 1 where there is one.
+#[repr(C)]
+pub struct CallReport {
+    pub head: Head,
+    pub hasentry: u64,
+    pub entry: u64,
+    pub hastoc: u64,
+    pub toc: u64,
+}
 
 // ---- builds and moves
 
@@ -53,8 +64,8 @@ fn move_valid(
     data: &mut [u8],
 ) -> CallAnswer
     requires { ⌜ Valid (now file) l ⌝ }
-    ensures cause { λ r. ⌜ r ≡ answerOf (relocatableOf (now (file .entry)) l) (length (now (text .entry))) (length (now («data» .entry))) (Call.move (planOf from (now («from_imports» .entry))) (planOf to (now («to_imports» .entry)))) ⌝ }
-    ensures images { λ _. ⌜ images (now (text .exit)) (now («data» .exit)) ≡ effect (relocatableOf (now (file .entry)) l) (Call.move (planOf from (now («from_imports» .entry))) (planOf to (now («to_imports» .entry)))) (images (now (text .entry)) (now («data» .entry))) ⌝ }
+    ensures cause { λ r. ⌜ r ≡ answerOf (relocatableOf (now (file .entry)) l) (length (now (text .entry))) (length (now («data» .entry))) (move (planOf from (now («from_imports» .entry))) (planOf to (now («to_imports» .entry)))) ⌝ }
+    ensures images { λ _. ⌜ images (now (text .exit)) (now («data» .exit)) ≡ effect (relocatableOf (now (file .entry)) l) (move (planOf from (now («from_imports» .entry))) (planOf to (now («to_imports» .entry)))) (images (now (text .entry)) (now («data» .entry))) ⌝ }
 {
     let v = call_check::check_move(
         file,
@@ -105,9 +116,9 @@ pub fn move_images(
     text: &mut [u8],
     data: &mut [u8],
 ) -> CallAnswer
-    ensures cause { λ r. ⌜ r ≡ answerOf (relocatableAt (now (file .entry))) (length (now (text .entry))) (length (now («data» .entry))) (Call.move (planOf from (now («from_imports» .entry))) (planOf to (now («to_imports» .entry)))) ⌝ }
-    ensures report { λ r. ⌜ reportOfCall r ≡ reportOfCall (answerOf (relocatableAt (now (file .entry))) (length (now (text .entry))) (length (now («data» .entry))) (Call.move (planOf from (now («from_imports» .entry))) (planOf to (now («to_imports» .entry))))) ⌝ }
-    ensures images { λ _. ⌜ images (now (text .exit)) (now («data» .exit)) ≡ effect (relocatableAt (now (file .entry))) (Call.move (planOf from (now («from_imports» .entry))) (planOf to (now («to_imports» .entry)))) (images (now (text .entry)) (now («data» .entry))) ⌝ }
+    ensures cause { λ r. ⌜ r ≡ answerOf (relocatableAt (now (file .entry))) (length (now (text .entry))) (length (now («data» .entry))) (move (planOf from (now («from_imports» .entry))) (planOf to (now («to_imports» .entry)))) ⌝ }
+    ensures report { λ r. ⌜ reportOfCall r ≡ reportOfCall (answerOf (relocatableAt (now (file .entry))) (length (now (text .entry))) (length (now («data» .entry))) (move (planOf from (now («from_imports» .entry))) (planOf to (now («to_imports» .entry))))) ⌝ }
+    ensures images { λ _. ⌜ images (now (text .exit)) (now («data» .exit)) ≡ effect (relocatableAt (now (file .entry))) (move (planOf from (now («from_imports» .entry))) (planOf to (now («to_imports» .entry)))) (images (now (text .entry)) (now («data» .entry))) ⌝ }
 {
     let a = loadable::module_of(file);
     match a {
@@ -122,5 +133,30 @@ pub fn move_images(
             text,
             data,
         ),
+    }
+}
+
+pub fn report_call(a: CallAnswer) -> CallReport
+    ensures { λ r. ⌜ r ≡ reportOfCall a ⌝ }
+{
+    match a {
+        CallAnswer::Done(r) => {
+            let entry = r.entry;
+            let toc = r.toc;
+            CallReport {
+                head: refusal::report_head(Verdict::Accepted),
+                hasentry: displacement::is_present(entry),
+                entry: displacement::address_of(entry),
+                hastoc: displacement::is_present(toc),
+                toc: displacement::address_of(toc),
+            }
+        }
+        CallAnswer::Refused(x) => CallReport {
+            head: refusal::report_head(Verdict::Refused(x)),
+            hasentry: 0,
+            entry: 0,
+            hastoc: 0,
+            toc: 0,
+        },
     }
 }

@@ -18,7 +18,8 @@ use Rattle.format.specs.Range.{range, bytesOf}
 use Rattle.refusal.specs.declared.RangeAnswer.the-variants as range
 use Rattle.refusal.specs.declared.Verdict.{Verdict}
 use Rattle.refusal.specs.declared.Verdict.the-variants as verdict
-use Rattle.refusal.specs.Part.{Within}
+use Rattle.refusal.specs.Part.{Within, reportOfRange, InFile}
+use Rattle.refusal.proofs.Report.{range-inside}
 use Rattle.refusal.proofs.Order.{accepted-test}
 use Rattle.loader_header.specs.declared.LoaderTables.{LoaderTables}
 use Rattle.loadable.specs.declared.Loadable.{Loadable}
@@ -140,3 +141,6 @@ by-answer file n w (loadable.Found l) e = by-id file l n w (idCheck (l .tables) 
 pub import-within : (file : List ℕ) (n : ℕ) (w : ImportString) → Within (length file) (importAt file n w)
 unfolding importAt
 import-within file n w = by-answer file n w (loadableAt file) refl
+
+pub import-inside : (file : List ℕ) (n : ℕ) (w : ImportString) → InFile file (reportOfRange (importAt file n w))
+import-inside file n w = range-inside file (importAt file n w) (import-within file n w)

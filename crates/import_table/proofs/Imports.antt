@@ -97,6 +97,6 @@ pub import-even : (file : List ℕ) (l : Loadable) (j : ℕ) → length (importR
 unfolding importRow
 import-even file l j = refl
 
-pub imports-need : (file : List ℕ) → Needs imports file (6 * moduleReport file .importIds)
+pub imports-need : (file : List ℕ) → Needs imports file (6 * moduleReport file .ids)
 unfolding tableCheck
-imports-need file = needs-by imports (λ a. reportOfModule a .importIds) file (λ l. refl) (λ x. refl) (import-even file) (loadableAt file)
+imports-need file = needs-by imports (λ a. reportOfModule a .ids) file (λ l. refl) (λ x. refl) (import-even file) (loadableAt file)

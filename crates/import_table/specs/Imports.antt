@@ -9,15 +9,15 @@ use Rattle.format.specs.Range.{bytesOf}
 use Rattle.loadable.specs.declared.Loadable.{Loadable}
 use Rattle.import_id.specs.declared.ImportString.the-variants.{Path, Base, Member}
 use Rattle.import_id.specs.Import.{stringOf, importAt}
-use Rattle.report.specs.Report.{cRange}
+use Rattle.refusal.specs.Part.{reportOfRange}
 use Rattle.module_table.specs.Table.{Table}
 
 -- import id n: offset and length of its path, base name and archive member
 unfoldable pub importRow : List ℕ → Loadable → ℕ → List ℕ
 importRow file l n =
-    let path = cRange (importAt file n Path) in
-    let base = cRange (importAt file n Base) in
-    let member = cRange (importAt file n Member) in
+    let path = reportOfRange (importAt file n Path) in
+    let base = reportOfRange (importAt file n Base) in
+    let member = reportOfRange (importAt file n Member) in
     path .offset ∷ path .length ∷ base .offset ∷ base .length ∷ member .offset ∷ member .length ∷ []
 
 abbrev pub imports : Table

@@ -91,11 +91,11 @@ module _ (file : List ℕ) (f : Format) (p : Parts) (t : LoaderTables) where
 
   entry-own : (i : ℕ) → entryCheck file f p t i ≡ verdict.Accepted → ownAt file f p t i ≡ verdict.Accepted
   unfolding entryCheck
-  entry-own i e = accepted-first (ownAt file f p t i) (refuseIf (meets (placeAt file f p t) i) (Overlap i)) e
+  entry-own i e = accepted-first (ownAt file f p t i) (refuseIf (meets (placeAt file f p t) i) (Overlap (record { 0 = i }))) e
 
   entry-apart : (i : ℕ) → entryCheck file f p t i ≡ verdict.Accepted → meets (placeAt file f p t) i ≡ false
   unfolding entryCheck
-  entry-apart i e = accepted-test (meets (placeAt file f p t) i) (Overlap i) (accepted-rest (ownAt file f p t i) (refuseIf (meets (placeAt file f p t) i) (Overlap i)) e)
+  entry-apart i e = accepted-test (meets (placeAt file f p t) i) (Overlap (record { 0 = i })) (accepted-rest (ownAt file f p t i) (refuseIf (meets (placeAt file f p t) i) (Overlap (record { 0 = i }))) e)
 
 -- ---- the whole module
 

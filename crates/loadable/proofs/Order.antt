@@ -53,8 +53,8 @@ module _ (check : ℕ → Verdict) where
   none-refused n i l h = record { within = omega arith; before = λ j k. h j (omega arith); here = λ k. absurd (omega arith) }
 
 -- an entry that neither check refuses
-passes : (v : Verdict) (t : Bool) (i : ℕ) → isRefused v ≡ false → t ≡ false → isRefused (v orElse refuseIf t (Overlap i)) ≡ false
-passes v t i e q = rw (go-on v (refuseIf t (Overlap i)) e, q) refl
+passes : (v : Verdict) (t : Bool) (i : ℕ) → isRefused v ≡ false → t ≡ false → isRefused (v orElse refuseIf t (Overlap (record { 0 = i }))) ≡ false
+passes v t i e q = rw (go-on v (refuseIf t (Overlap (record { 0 = i }))) e, q) refl
 
 module _ (file : List ℕ) (f : Format) (p : Parts) (t : LoaderTables) {n k x : ℕ} (own : FirstRefused (ownAt file f p t) n k) (over : First (placeAt file f p t) k x) where
   fine : (i : ℕ) → i < x → isRefused (entryCheck file f p t i) ≡ false
@@ -62,18 +62,18 @@ module _ (file : List ℕ) (f : Format) (p : Parts) (t : LoaderTables) {n k x : 
   fine i l = passes (ownAt file f p t i) (meets (placeAt file f p t) i) i (own .before i (omega (arith, over .within))) (first-before (placeAt file f p t) k x over i l)
 
   -- fields meet before any entry is refused by itself
-  pub overlap-first : x < k → Refused (Overlap x) ≡ firstOf (entryCheck file f p t) 0 n
+  pub overlap-first : x < k → Refused (Overlap (record { 0 = x })) ≡ firstOf (entryCheck file f p t) 0 n
   overlap-first h = sym (first-is (entryCheck file f p t) n x (omega (arith, own .within)) fine (ap isRefused here) ∙ here)
     where
-      here : entryCheck file f p t x ≡ Refused (Overlap x)
-      here = unfold entryCheck in rw (go-on (ownAt file f p t x) (refuseIf (meets (placeAt file f p t) x) (Overlap x)) (own .before x h), first-here (placeAt file f p t) k x over h) refl
+      here : entryCheck file f p t x ≡ Refused (Overlap (record { 0 = x }))
+      here = unfold entryCheck in rw (go-on (ownAt file f p t x) (refuseIf (meets (placeAt file f p t) x) (Overlap (record { 0 = x }))) (own .before x h), first-here (placeAt file f p t) k x over h) refl
 
   -- an entry is refused by itself, and no fields meet before it
   own-first : k ≤ x → k < n → ownAt file f p t k ≡ firstOf (entryCheck file f p t) 0 n
   own-first h l = sym (first-is (entryCheck file f p t) n k l (λ i u. fine i (omega arith)) (ap isRefused here ∙ own .here l) ∙ here)
     where
       here : entryCheck file f p t k ≡ ownAt file f p t k
-      here = unfold entryCheck in stop (ownAt file f p t k) (refuseIf (meets (placeAt file f p t) k) (Overlap k)) (own .here l)
+      here = unfold entryCheck in stop (ownAt file f p t k) (refuseIf (meets (placeAt file f p t) k) (Overlap (record { 0 = k }))) (own .here l)
 
   none-first : k ≤ x → n ≤ k → Accepted ≡ firstOf (entryCheck file f p t) 0 n
   none-first h l = sym (first-none (entryCheck file f p t) n (λ i u. fine i (omega arith)))

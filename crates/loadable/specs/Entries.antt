@@ -18,7 +18,7 @@ use Rattle.clash.specs.Overlap.{meets}
 
 -- entry i: THREAD and LREL, then OVERLAP where its field meets an earlier entry's that isn't the same
 unfoldable pub entryCheck : List ℕ → Format → Parts → LoaderTables → ℕ → Verdict
-entryCheck file f p t i = ownAt file f p t i orElse refuseIf (meets (placeAt file f p t) i) (Overlap i)
+entryCheck file f p t i = ownAt file f p t i orElse refuseIf (meets (placeAt file f p t) i) (Overlap (record { 0 = i }))
 
 -- the first refusal of an entry
 unfoldable pub entriesCheck : List ℕ → Format → Parts → LoaderTables → Verdict

@@ -3,13 +3,17 @@ ghost use mathlib.Core.Path.{_≡_};
 ghost use Rattle.relocation.specs.Relocation.{ownAt};
 ghost use Rattle.module.specs.Inside.{ModuleInside};
 ghost use Rattle.loadable.specs.Entries.{entriesCheck, FirstRefused, verdictAt, EntriesReady};
-ghost use Rattle.loadable.specs.Loadable.{loadableIn, loadableAt, reportOfModule, moduleReport};
+ghost use Rattle.loadable.specs.Loadable.{loadableIn, loadableAt, partReport, anchorReport, reportOfModule, moduleReport};
 use format::Format;
 use loader::LoaderAnswer;
 use loader_header::LoaderTables;
+use module::Anchor;
 use module::Module;
 use module::ModuleAnswer;
+use parts::Part;
 use parts::Parts;
+use refusal::Head;
+use refusal::LoaderRelocation;
 use refusal::Refusal;
 use refusal::Verdict;
 
@@ -22,6 +26,38 @@ pub struct Loadable {
 pub enum LoadableAnswer {
     Found(Loadable),
     Refused(Refusal),
+}
+
+// A section of a module.
+#[repr(C)]
+pub struct PartReport {
+    pub number: u64,
+    pub address: u64,
+    pub size: u64,
+}
+
+// The entry point or the TOC: section 0 where there is none.
+#[repr(C)]
+pub struct AnchorReport {
+    pub section: u64,
+    pub address: u64,
+}
+
+// `loader` is a section number, `image` the data image's length, `ids` how many import ids there are.
+#[repr(C)]
+pub struct ModuleReport {
+    pub head: Head,
+    pub bits: u64,
+    pub text: PartReport,
+    pub data: PartReport,
+    pub bss: PartReport,
+    pub loader: u64,
+    pub image: u64,
+    pub symbols: u64,
+    pub relocations: u64,
+    pub ids: u64,
+    pub entry: AnchorReport,
+    pub toc: AnchorReport,
 }
 
 // The first entry that THREAD or LREL refuses and its refusal, or how many entries there are.
@@ -62,7 +98,7 @@ fn check_entries(file: &[u8], f: Format, p: Parts, t: LoaderTables) -> Verdict
     let k = own.first;
     let x = overlap::first_overlap(file, f, p, t, k);
     if x < k {
-        return Verdict::Refused(Refusal::Overlap(x));
+        return Verdict::Refused(Refusal::Overlap(LoaderRelocation(x)));
     }
     own.verdict
 }
@@ -96,5 +132,95 @@ pub fn module_of(file: &[u8]) -> LoadableAnswer
     match a {
         ModuleAnswer::Refused(x) => LoadableAnswer::Refused(x),
         ModuleAnswer::Found(m) => load(file, m),
+    }
+}
+
+fn report_part(p: Part) -> PartReport
+    ensures { λ r. ⌜ r ≡ partReport (p .number .0) (p .address .0) (p .size) ⌝ }
+{
+    let number = p.number;
+    let address = p.address;
+    PartReport {
+        number: number.0,
+        address: address.0,
+        size: p.size,
+    }
+}
+
+fn report_anchor(a: Anchor) -> AnchorReport
+    ensures { λ r. ⌜ r ≡ anchorReport (a .section .0) (a .address .0) ⌝ }
+{
+    let section = a.section;
+    let address = a.address;
+    AnchorReport {
+        section: section.0,
+        address: address.0,
+    }
+}
+
+fn report_refused(x: Refusal) -> ModuleReport
+    ensures { λ r. ⌜ r ≡ reportOfModule (LoadableAnswer.Refused x) ⌝ }
+{
+    let part = PartReport {
+        number: 0,
+        address: 0,
+        size: 0,
+    };
+    let anchor = AnchorReport {
+        section: 0,
+        address: 0,
+    };
+    ModuleReport {
+        head: refusal::report_head(Verdict::Refused(x)),
+        bits: 0,
+        text: part,
+        data: part,
+        bss: part,
+        loader: 0,
+        image: 0,
+        symbols: 0,
+        relocations: 0,
+        ids: 0,
+        entry: anchor,
+        toc: anchor,
+    }
+}
+
+fn report_found(l: Loadable) -> ModuleReport
+    ensures { λ r. ⌜ r ≡ reportOfModule (LoadableAnswer.Found l) ⌝ }
+{
+    let m = l.layout;
+    let p = m.parts;
+    let text = p.text;
+    let data = p.data;
+    let bss = p.bss;
+    let loader = p.loader;
+    let number = loader.number;
+    let t = l.tables;
+    let f = m.format;
+    let entry = m.entry;
+    let toc = m.toc;
+    ModuleReport {
+        head: refusal::report_head(Verdict::Accepted),
+        bits: format::bits_of(f),
+        text: report_part(text),
+        data: report_part(data),
+        bss: report_part(bss),
+        loader: number.0,
+        image: m.image,
+        symbols: t.nsyms,
+        relocations: t.nreloc,
+        ids: t.nimpid,
+        entry: report_anchor(entry),
+        toc: report_anchor(toc),
+    }
+}
+
+pub fn report_module(a: LoadableAnswer) -> ModuleReport
+    ensures { λ r. ⌜ r ≡ reportOfModule a ⌝ }
+{
+    match a {
+        LoadableAnswer::Refused(x) => report_refused(x),
+        LoadableAnswer::Found(l) => report_found(l),
     }
 }

@@ -20,7 +20,8 @@ use Rattle.format.proofs.Ranges.{text-inside}
 use Rattle.refusal.specs.declared.RangeAnswer.the-variants as range
 use Rattle.refusal.specs.declared.Verdict.{Verdict}
 use Rattle.refusal.specs.declared.Verdict.the-variants as verdict
-use Rattle.refusal.specs.Part.{Within}
+use Rattle.refusal.specs.Part.{Within, reportOfRange, InFile}
+use Rattle.refusal.proofs.Report.{range-inside}
 use Rattle.refusal.proofs.Order.{accepted-test}
 use Rattle.loader_header.specs.declared.LoaderTables.{LoaderTables}
 use Rattle.loader_symbol.specs.Symbol.{entryStart, stringIn, nameIn, TablesInside}
@@ -85,3 +86,6 @@ by-answer file i (loadable.Found l) e = by-index file l i (indexCheck (l .tables
 pub loader-name-within : (file : List ℕ) (i : ℕ) → Within (length file) (loaderNameAt file i)
 unfolding loaderNameAt
 loader-name-within file i = by-answer file i (loadableAt file) refl
+
+pub loader-name-inside : (file : List ℕ) (i : ℕ) → InFile file (reportOfRange (loaderNameAt file i))
+loader-name-inside file i = range-inside file (loaderNameAt file i) (loader-name-within file i)

@@ -9,7 +9,8 @@ use Rattle.refusal.specs.declared.RangeAnswer.{RangeAnswer}
 use Rattle.refusal.specs.declared.RangeAnswer.the-variants as range
 use Rattle.refusal.specs.declared.Verdict.{Verdict}
 use Rattle.refusal.specs.Order.{refuseIf, byVerdict}
-use Rattle.refusal.specs.Refusal.{numberOf, itemOf}
+use Rattle.refusal.specs.declared.Verdict.the-variants as verdict
+use Rattle.refusal.specs.Refusal.{reportHead}
 use Rattle.loader_symbol.specs.declared.LoaderEntry.{LoaderEntry}
 use Rattle.loader_header.specs.declared.LoaderTables.{LoaderTables}
 use Rattle.loader_symbol.specs.Symbol.{entryStart, entryAt, nameIn}
@@ -18,6 +19,7 @@ use Rattle.loadable.specs.declared.LoadableAnswer.{LoadableAnswer}
 use Rattle.loadable.specs.declared.LoadableAnswer.the-variants as loadable
 use Rattle.loadable.specs.Loadable.{loadableAt}
 use Rattle.lookup.specs.declared.LoaderSymbolAnswer.{LoaderSymbolAnswer}
+use Rattle.lookup.specs.declared.LoaderSymbolReport.{LoaderSymbolReport}
 use Rattle.lookup.specs.declared.LoaderSymbolAnswer.the-variants.{Found, Refused}
 
 -- INDEX: 0, 1 and 2 are text, data and bss; the table's own start at 3
@@ -46,22 +48,12 @@ symbolNameIn file (loadable.Found l) i = byVerdict (indexCheck (l .tables) i) (n
 unfoldable pub loaderNameAt : List ℕ → ℕ → RangeAnswer
 loaderNameAt file i = symbolNameIn file (loadableAt file) i
 
--- document 01's number (0: accepted), item and values of the answer
-pub record LoaderSymbolReport : Type 0 where
-  pub number : ℕ
-  pub item : ℕ
-  pub value : ℕ
-  pub scnum : ℕ
-  pub smtype : ℕ
-  pub smclas : ℕ
-  pub ifile : ℕ
-  pub parm : ℕ
-
+-- the answer in document 01's numbers
 abbrev pub reportOfLoaderSymbol : LoaderSymbolAnswer → LoaderSymbolReport
 reportOfLoaderSymbol (Found e) =
-    record { number = 0; item = 0; value = e .value; scnum = e .scnum; smtype = e .smtype; smclas = e .smclas; ifile = e .ifile; parm = e .parm }
+    record { head = reportHead verdict.Accepted; value = e .value; scnum = e .scnum; smtype = e .smtype; smclas = e .smclas; ifile = e .ifile; parm = e .parm }
 reportOfLoaderSymbol (Refused x) =
-    record { number = numberOf x; item = itemOf x; value = 0; scnum = 0; smtype = 0; smclas = 0; ifile = 0; parm = 0 }
+    record { head = reportHead (verdict.Refused x); value = 0; scnum = 0; smtype = 0; smclas = 0; ifile = 0; parm = 0 }
 
 abbrev pub loaderSymbolReport : List ℕ → ℕ → LoaderSymbolReport
 loaderSymbolReport file i = reportOfLoaderSymbol (loaderSymbolAt file i)

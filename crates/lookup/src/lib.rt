@@ -3,12 +3,13 @@ ghost use mathlib.Core.Path.{_≡_};
 ghost use Prim.Native.Nat.{_+_, _-_, _*_, _≤_, _<_};
 ghost use Rattle.format.specs.Layout.{loaderSymbolLength};
 ghost use Rattle.format.specs.Limit.{fileLimit};
-ghost use Rattle.refusal.specs.Part.{rangeBytes};
+ghost use Rattle.refusal.specs.Part.{rangeBytes, reportOfRange};
 ghost use Rattle.loader_symbol.specs.Symbol.{entryStart};
 ghost use Rattle.lookup.specs.Symbol.{indexCheck, loaderSymbolAt, loaderNameAt, reportOfLoaderSymbol, loaderSymbolReport};
 use loadable::LoadableAnswer;
 use loader_header::LoaderTables;
 use loader_symbol::LoaderEntry;
+use refusal::Head;
 use refusal::IndexItem;
 use refusal::RangeAnswer;
 use refusal::Refusal;
@@ -17,6 +18,17 @@ use refusal::Verdict;
 pub enum LoaderSymbolAnswer {
     Found(LoaderEntry),
     Refused(Refusal),
+}
+
+#[repr(C)]
+pub struct LoaderSymbolReport {
+    pub head: Head,
+    pub value: u64,
+    pub scnum: u64,
+    pub smtype: u64,
+    pub smclas: u64,
+    pub ifile: u64,
+    pub parm: u64,
 }
 
 // INDEX where the table has no loader symbol `i`.
@@ -68,7 +80,8 @@ pub fn loader_symbol(file: &[u8], i: u64) -> LoaderSymbolAnswer
 
 // Where the name of the loader symbol with index `i` lies.
 pub fn loader_symbol_name_range(file: &[u8], i: u64) -> RangeAnswer
-    ensures { λ r. ⌜ r ≡ loaderNameAt (now (file .entry)) i ⌝ }
+    ensures cause { λ r. ⌜ r ≡ loaderNameAt (now (file .entry)) i ⌝ }
+    ensures report { λ r. ⌜ reportOfRange r ≡ reportOfRange (loaderNameAt (now (file .entry)) i) ⌝ }
 {
     let a = loadable::module_of(file);
     match a {
@@ -98,4 +111,29 @@ pub fn loader_symbol_name<'a>(file: &'a [u8], i: u64) -> &'a [u8]
 {
     let a = loader_symbol_name_range(file, i);
     refusal::part_of(file, a)
+}
+
+pub fn report_loader_symbol(a: LoaderSymbolAnswer) -> LoaderSymbolReport
+    ensures { λ r. ⌜ r ≡ reportOfLoaderSymbol a ⌝ }
+{
+    match a {
+        LoaderSymbolAnswer::Refused(x) => LoaderSymbolReport {
+            head: refusal::report_head(Verdict::Refused(x)),
+            value: 0,
+            scnum: 0,
+            smtype: 0,
+            smclas: 0,
+            ifile: 0,
+            parm: 0,
+        },
+        LoaderSymbolAnswer::Found(e) => LoaderSymbolReport {
+            head: refusal::report_head(Verdict::Accepted),
+            value: e.value,
+            scnum: e.scnum,
+            smtype: e.smtype,
+            smclas: e.smclas,
+            ifile: e.ifile,
+            parm: e.parm,
+        },
+    }
 }

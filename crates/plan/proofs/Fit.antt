@@ -1,13 +1,13 @@
 -- Laws of the checks of a plan. Assumes nothing.
-use mathlib.Core.Path.{_≡_, refl, sym, _∙_}
+use mathlib.Core.Path.{_≡_, refl, sym, _∙_, ap}
 use mathlib.Core.Bool.{Bool, true, false, not}
 use mathlib.Core.List.{List}
-use Prim.Native.Nat.{ℕ, zero, suc, _+_, _-_, _≤_, _<_}
+use Prim.Native.Nat.{ℕ, _+_, _-_, _≤_, _<_}
 use native.Mathlib.Decide.{decLe}
 use native.Mathlib.Omega.{arith}
 use lib.Dec.{ltb, leb}
 use lib.ListN.{length, getD}
-use borrow.Author.Tests.{lt-ltb, le-ltb, le-leb, lt-leb, eq-eqb, ne-eqb, eqb-true, not-false}
+use borrow.Author.Tests.{lt-ltb, le-ltb, le-leb, lt-leb, eq-eqb, ne-eqb}
 use Rattle.format.specs.Layout.{addressLimit}
 use Rattle.refusal.specs.declared.PlanItem.the-variants.{TextAddress, DataAddress, ImportAddress}
 use Rattle.refusal.specs.declared.RoomItem.the-variants.{AddressList}
@@ -16,14 +16,13 @@ use Rattle.refusal.specs.declared.Verdict.{Verdict}
 use Rattle.refusal.specs.declared.Verdict.the-variants.{Accepted, Refused}
 use Rattle.refusal.specs.Refusal.{isRefused}
 use Rattle.refusal.specs.Order.{_orElse_, refuseIf, firstOf}
-use Rattle.refusal.proofs.Order.{accepted-test, first-stop}
+use Rattle.refusal.proofs.Order.{accepted-equal, first-stop}
 use Rattle.loadable.specs.declared.Loadable.{Loadable}
 use Rattle.loadable.specs.Valid.{Valid}
 use Rattle.history.specs.declared.Followed.{Followed}
 use Rattle.history.specs.declared.Followed.the-variants as followed
-use Rattle.history.specs.Plan.{Plan, fits, listCheck, addressCheck, importCheck, fitCheck}
-use Rattle.plan.specs.Relocatable.{followedAt, symbolsFrom, relocatableOf}
-use Rattle.plan.specs.Import.{importAt}
+use Rattle.history.specs.Plan.{Plan, fits, listRoom, listCheck, addressCheck, importCheck, fitCheck}
+use Rattle.plan.specs.Relocatable.{followedAt, relocatableOf}
 use Rattle.plan.proofs.Symbols.{length-symbols, symbol-at, OwnPlace, own-place-at}
 use Rattle.plan.proofs.Raw.{length-raw-text, length-raw-data}
 
@@ -51,21 +50,24 @@ fits-by last a size h p = rw (lt-ltb a (last + 1) (omega arith)) (by-end (decLe 
 -- ---- the list
 
 -- a list with an address for each loader symbol is accepted
-pub list-whole : (file : List ℕ) (l : Loadable) (p : Plan) → length (p .list) ≡ l .tables .nsyms → Accepted ≡ listCheck (relocatableOf file l) p
-unfolding listCheck relocatableOf
-list-whole file l p e = rw (length-symbols file l 0 (l .tables .nsyms), eq-eqb (length (p .list)) (l .tables .nsyms) e)
+pub list-whole : (n k : ℕ) → k ≡ n → Accepted ≡ listRoom n k
+unfolding listRoom
+list-whole n k e = rw (eq-eqb k n e) refl
 
 -- any other list is refused
-pub list-other : (file : List ℕ) (l : Loadable) (p : Plan) → (length (p .list) ≡ l .tables .nsyms → ⊥) → Refused (refusal.Room AddressList) ≡ listCheck (relocatableOf file l) p
-unfolding listCheck relocatableOf
-list-other file l p n = rw (length-symbols file l 0 (l .tables .nsyms), ne-eqb (length (p .list)) (l .tables .nsyms) n)
+pub list-other : (n k : ℕ) → (k ≡ n → ⊥) → Refused (refusal.Room AddressList) ≡ listRoom n k
+unfolding listRoom
+list-other n k e = rw (ne-eqb k n e) refl
 
--- a list that is accepted has an address for each loader symbol
-pub list-accepted : (file : List ℕ) (l : Loadable) (p : Plan) → listCheck (relocatableOf file l) p ≡ Accepted → length (p .list) ≡ l .tables .nsyms
+-- a list that is accepted has an address for each
+pub list-accepted : (n k : ℕ) → listRoom n k ≡ Accepted → k ≡ n
+unfolding listRoom
+list-accepted n k e = accepted-equal k n (refusal.Room AddressList) e
+
+-- a module's loader symbols are as many as its loader header says
+pub list-check : (file : List ℕ) (l : Loadable) (p : Plan) → listCheck (relocatableOf file l) p ≡ listRoom (l .tables .nsyms) (length (p .list))
 unfolding listCheck relocatableOf
-list-accepted file l p e =
-    eqb-true (length (p .list)) (length (symbolsFrom file l 0 (l .tables .nsyms))) (not-false _ (accepted-test _ (refusal.Room AddressList) e))
-    ∙ length-symbols file l 0 (l .tables .nsyms)
+list-check file l p = ap (λ (n : ℕ). listRoom n (length (p .list))) (length-symbols file l 0 (l .tables .nsyms))
 
 -- ---- imports
 
@@ -95,58 +97,51 @@ module _ (limit : ℕ) (list : List ℕ) (i k : ℕ) where
       by-test false q = cc
   address-named followed.Nothing e = cc
 
-module _ (file : List ℕ) (l : Loadable) (limit : ℕ) (list : List ℕ) (k : ℕ) where
-  -- no symbol is refused whose address in the list is below the limit
-  pub import-below : getD list k 0 < limit → false ≡ isRefused (importAt file l limit list k)
-  unfolding importAt
-  import-below h = rw (address-below limit list (k + 3) k (followedAt file l k) (own-place-at file l k) h) refl
+module _ (file : List ℕ) (l : Loadable) (list : List ℕ) (k : ℕ) (h : k < l .tables .nsyms) where
+  -- a symbol is judged by its entry in the file
+  pub import-file : importCheck (relocatableOf file l) list k ≡ addressCheck (addressLimit (l .layout .format)) list (k + 3) (followedAt file l k)
+  unfolding importCheck relocatableOf
+  import-file = rw (symbol-at file l (l .tables .nsyms) k h) refl
 
-  -- an import is refused whose address is not
-  pub import-above : (j v : ℕ) → followedAt file l k ≡ followed.Import j v → limit ≤ getD list k 0 → true ≡ isRefused (importAt file l limit list k)
-  unfolding importAt
-  import-above j v e h = rw e (sym (address-above limit list (k + 3) k j v (rw e at (own-place-at file l k)) h))
+  -- no symbol is refused whose address in the list is below the limit
+  pub import-below : getD list k 0 < addressLimit (l .layout .format) → false ≡ isRefused (importCheck (relocatableOf file l) list k)
+  import-below b = rw (import-file, address-below _ list (k + 3) k (followedAt file l k) (own-place-at file l k) b) refl
+
+  -- none is refused that follows something else than its own address
+  pub import-other : (f : Followed) → followedAt file l k ≡ f → addressCheck (addressLimit (l .layout .format)) list (k + 3) f ≡ Accepted
+      → false ≡ isRefused (importCheck (relocatableOf file l) list k)
+  import-other f e a = rw (import-file, e, a) refl
+
+  -- an import is refused whose address is not below it
+  pub import-above : (j v : ℕ) → followedAt file l k ≡ followed.Import j v → addressLimit (l .layout .format) ≤ getD list k 0
+      → true ≡ isRefused (importCheck (relocatableOf file l) list k)
+  import-above j v e b = rw (import-file, e) (sym (address-above _ list (k + 3) k j v (rw e at (own-place-at file l k)) b))
 
   -- a refusal names the symbol's index
-  import-named : isRefused (importAt file l limit list k) ≡ true → Refused (refusal.Plan (ImportAddress (k + 3))) ≡ importAt file l limit list k
-  unfolding importAt
-  import-named e = address-named limit list (k + 3) k (followedAt file l k) e
+  import-named : isRefused (importCheck (relocatableOf file l) list k) ≡ true → Refused (refusal.Plan (ImportAddress (k + 3))) ≡ importCheck (relocatableOf file l) list k
+  import-named e = rw import-file (address-named _ list (k + 3) k (followedAt file l k) (rw import-file at e))
 
-  -- the loop over n symbols stops at k, the first that is refused
-  pub imports-stop : (n : ℕ) → k < n → firstOf (importAt file l limit list) 0 n ≡ firstOf (importAt file l limit list) k (n - k)
-      → isRefused (importAt file l limit list k) ≡ true → Refused (refusal.Plan (ImportAddress (k + 3))) ≡ firstOf (importAt file l limit list) 0 n
-  imports-stop n h q e = import-named e ∙ sym (q ∙ first-stop (importAt file l limit list) n k h e)
+  -- the loop over the symbols stops at k, the first that is refused
+  pub imports-stop : firstOf (importCheck (relocatableOf file l) list) 0 (l .tables .nsyms) ≡ firstOf (importCheck (relocatableOf file l) list) k (l .tables .nsyms - k)
+      → isRefused (importCheck (relocatableOf file l) list k) ≡ true
+      → Refused (refusal.Plan (ImportAddress (k + 3))) ≡ firstOf (importCheck (relocatableOf file l) list) 0 (l .tables .nsyms)
+  imports-stop q e = import-named e ∙ sym (q ∙ first-stop (importCheck (relocatableOf file l) list) (l .tables .nsyms) k h e)
 
 -- ---- the whole check
 
--- checks that are the same at n places from i have the same first refusal
-first-same : (f g : ℕ → Verdict) (i n : ℕ) → ((k : ℕ) → k < i + n → f k ≡ g k) → firstOf f i n ≡ firstOf g i n
-unfolding firstOf
-first-same f g i zero h = refl
-first-same f g i (suc n) h =
-    rw (h i (omega arith), first-same f g (suc i) n (λ k b. h k (omega arith))) refl
-
 module _ (file : List ℕ) (l : Loadable) (p : Plan) where
-  -- an import is checked as its entry in the file is
-  import-check : (k : ℕ) → k < l .tables .nsyms → importCheck (relocatableOf file l) p k ≡ importAt file l (addressLimit (l .layout .format)) (p .list) k
-  unfolding importCheck importAt relocatableOf
-  import-check k h = rw (symbol-at file l (l .tables .nsyms) k h) refl
-
-  -- so are all imports
-  imports-check : firstOf (importCheck (relocatableOf file l) p) 0 (l .tables .nsyms) ≡ firstOf (importAt file l (addressLimit (l .layout .format)) (p .list)) 0 (l .tables .nsyms)
-  imports-check = first-same _ _ 0 (l .tables .nsyms) (λ k h. import-check k (omega arith))
-
-  -- PLAN by the sizes of the sections and the entries in the file, up to a limit
+  -- PLAN by the sizes of the sections, up to a limit
   abbrev sizesCheck : ℕ → Verdict
   sizesCheck limit =
       refuseIf (not (fits limit (p .text) (l .layout .parts .text .size))) (refusal.Plan TextAddress)
       orElse refuseIf (not (fits limit (p .dat) (l .layout .image))) (refusal.Plan DataAddress)
-      orElse firstOf (importAt file l limit (p .list)) 0 (l .tables .nsyms)
+      orElse firstOf (importCheck (relocatableOf file l) (p .list)) 0 (l .tables .nsyms)
 
   -- it is the plan's check
   sizes-check : Valid file l → fitCheck (relocatableOf file l) p ≡ sizesCheck (addressLimit (l .layout .format))
   unfolding fitCheck relocatableOf
   sizes-check v =
-      rw (length-raw-text file l v, length-raw-data file l v, length-symbols file l 0 (l .tables .nsyms), imports-check) refl
+      rw (length-raw-text file l v, length-raw-data file l v, length-symbols file l 0 (l .tables .nsyms)) refl
 
   -- the plan's check, where t tells whether the text image fits, and d whether the data image does
   module _ (v : Valid file l) {limit : ℕ} (e : limit ≡ addressLimit (l .layout .format)) {t : Bool} (et : t ≡ fits limit (p .text) (l .layout .parts .text .size)) where
@@ -160,5 +155,5 @@ module _ (file : List ℕ) (l : Loadable) (p : Plan) where
 
     -- where both fit, the imports decide
     pub imports-decide : {d : Bool} {z : Verdict} → not t ≡ false → d ≡ fits limit (p .dat) (l .layout .image) → not d ≡ false
-        → z ≡ firstOf (importAt file l limit (p .list)) 0 (l .tables .nsyms) → z ≡ fitCheck (relocatableOf file l) p
+        → z ≡ firstOf (importCheck (relocatableOf file l) (p .list)) 0 (l .tables .nsyms) → z ≡ fitCheck (relocatableOf file l) p
     imports-decide nt ed nd h = rw (sizes-check v, ← e, ← et, nt, ← ed, nd) h

@@ -1,3 +1,2 @@
 -- What the contracts of `plan` cite.
 pub mod Relocatable
-pub mod Import

@@ -7,7 +7,8 @@ use lib.ListN.{replicate}
 use Rattle.format.specs.declared.FileOffset.{FileOffset}
 use Rattle.format.specs.declared.Format.{Format}
 use Rattle.format.specs.declared.SectionNumber.{SectionNumber}
-use Rattle.format.specs.Layout.{addressLimit, loaderSymbolLength}
+use Rattle.format.specs.declared.Format.the-variants.{Xcoff32}
+use Rattle.format.specs.Layout.{loaderSymbolLength}
 use Rattle.format.specs.Range.{range, bytesOf}
 use Rattle.refusal.specs.declared.Refusal.{Refusal}
 use Rattle.refusal.specs.declared.Verdict.the-variants as verdict
@@ -26,6 +27,7 @@ use Rattle.history.specs.declared.Followed.the-variants as followed
 use Rattle.history.specs.declared.Relocation.{Relocation}
 use Rattle.history.specs.Images.{Images, images}
 use Rattle.history.specs.Plan.{Anchored, Relocatable}
+use Rattle.history.specs.Plan.Anchored.{none, inText, inData}
 
 -- which address the loader symbol with place k in the table follows: an import its own, a deferred import (file id 0) none, any other its section's,
 -- bss following data
@@ -70,12 +72,8 @@ rawData file m =
     bytesOf file (range (m .parts .«data» .start .0) (m .parts .«data» .size)) ++ replicate (m .image - m .parts .«data» .size) 0
 
 -- the entry point or the TOC anchor: section 0 means that there is none
-unfoldable pub anchorFollows : Parts → Anchor → Followed
-anchorFollows p a =
-    cond (eqb (a .section .0) 0) followed.Nothing (cond (eqb (a .section .0) (p .text .number .0)) followed.Text followed.Data)
-
-abbrev pub anchored : Parts → Anchor → Anchored
-anchored p a = record { follows = anchorFollows p a; address = a .address .0 }
+unfoldable pub anchored : Parts → Anchor → Anchored
+anchored p a = cond (eqb (a .section .0) 0) none (cond (eqb (a .section .0) (p .text .number .0)) (inText (a .address .0)) (inData (a .address .0)))
 
 unfoldable pub relocatableOf : List ℕ → Loadable → Relocatable
 relocatableOf file l =
@@ -84,14 +82,14 @@ relocatableOf file l =
       raw = images (rawText file (l .layout)) (rawData file (l .layout));
       textAddress = l .layout .parts .text .address .0;
       dataAddress = l .layout .parts .«data» .address .0;
-      limit = addressLimit (l .layout .format);
+      format = l .layout .format;
       symbols = symbolsFrom file l 0 (l .tables .nsyms);
       entries = relocationsFrom file l 0 (l .tables .nreloc);
       entry = anchored (l .layout .parts) (l .layout .entry);
       toc = anchored (l .layout .parts) (l .layout .toc);
     }
 
--- a refused file: nothing to apply, and every call is refused by its verdict
+-- a refused file: nothing to apply, and every call is refused by its verdict, whatever the format
 unfoldable pub noModule : Refusal → Relocatable
 noModule x =
     record {
@@ -99,11 +97,11 @@ noModule x =
       raw = images [] [];
       textAddress = 0;
       dataAddress = 0;
-      limit = 0;
+      format = Xcoff32;
       symbols = [];
       entries = [];
-      entry = record { follows = followed.Nothing; address = 0 };
-      toc = record { follows = followed.Nothing; address = 0 };
+      entry = none;
+      toc = none;
     }
 
 unfoldable pub relocatableBy : List ℕ → LoadableAnswer → Relocatable

@@ -2,14 +2,13 @@
 ghost use mathlib.Core.Path.{_≡_};
 ghost use Prim.Native.Nat.{_+_, _*_, _≤_, _<_};
 ghost use lib.ListN.{length};
-ghost use Rattle.format.specs.Layout.{loaderSymbolLength};
+ghost use Rattle.format.specs.Layout.{addressLimit, loaderSymbolLength};
 ghost use Rattle.format.specs.Limit.{fileLimit};
 ghost use Rattle.refusal.specs.Refusal.{isRefused};
 ghost use Rattle.refusal.specs.Order.{firstOf};
 ghost use Rattle.loadable.specs.Valid.{Valid};
-ghost use Rattle.history.specs.Plan.{Plan, fits, listCheck, fitCheck};
+ghost use Rattle.history.specs.Plan.{Plan, fits, listRoom, importCheck, fitCheck};
 ghost use Rattle.plan.specs.Relocatable.{followedIn, relocationAt, relocatableOf};
-ghost use Rattle.plan.specs.Import.{importAt};
 use format::FileOffset;
 use format::Format;
 use format::SectionNumber;
@@ -69,8 +68,8 @@ pub fn relocation_at(file: &[u8], l: Loadable, i: u64) -> Relocation
 }
 
 // ROOM 2: a list of exactly as many addresses as loader symbols.
-pub fn check_list(file: &[u8], l: Loadable, text: u64, data: u64, list: &[u64]) -> Verdict
-    ensures { λ r. ⌜ r ≡ listCheck (relocatableOf (now (file .entry)) l) (record { text = text; dat = «data»; list = now (list .entry) }) ⌝ }
+pub fn check_list(l: Loadable, list: &[u64]) -> Verdict
+    ensures { λ r. ⌜ r ≡ listRoom (l .tables .nsyms) (length (now (list .entry))) ⌝ }
 {
     let t = l.tables;
     if list.len() as u64 == t.nsyms {
@@ -92,10 +91,12 @@ fn fits_up_to(last: u64, a: u64, size: u64) -> bool
     size - 1 <= last - a
 }
 
-// Whether PLAN refuses the list's address for the loader symbol with place `k`. The symbol is read only where its address is above `last`.
+// Whether PLAN refuses the list's address for the loader symbol with place `k`. The symbol is read only where its address is above `last`, the
+// format's last one.
 fn refuses_import(file: &[u8], l: Loadable, last: u64, list: &[u64], k: u64) -> bool
     requires { ⌜ Valid (now file) l × (length (now list) ≡ l .tables .nsyms) × (k < l .tables .nsyms) ⌝ }
-    ensures { λ r. ⌜ r ≡ isRefused (importAt (now (file .entry)) l (last + 1) (now (list .entry)) k) ⌝ }
+    requires { ⌜ last + 1 ≡ addressLimit (l .layout .format) ⌝ }
+    ensures { λ r. ⌜ r ≡ isRefused (importCheck (relocatableOf (now (file .entry)) l) (now (list .entry)) k) ⌝ }
 {
     if list[k as usize] <= last {
         return false;
@@ -119,7 +120,8 @@ fn refuses_import(file: &[u8], l: Loadable, last: u64, list: &[u64], k: u64) -> 
 // PLAN of the lowest import.
 fn check_imports(file: &[u8], l: Loadable, last: u64, list: &[u64]) -> Verdict
     requires { ⌜ Valid (now file) l × (length (now list) ≡ l .tables .nsyms) ⌝ }
-    ensures { λ r. ⌜ r ≡ firstOf (importAt (now (file .entry)) l (last + 1) (now (list .entry))) 0 (l .tables .nsyms) ⌝ }
+    requires { ⌜ last + 1 ≡ addressLimit (l .layout .format) ⌝ }
+    ensures { λ r. ⌜ r ≡ firstOf (importCheck (relocatableOf (now (file .entry)) l) (now (list .entry))) 0 (l .tables .nsyms) ⌝ }
 {
     let t = l.tables;
     let count = t.nsyms;

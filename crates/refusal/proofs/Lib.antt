@@ -1,3 +1,4 @@
--- The laws of orders of checks, for the crates above.
+-- The laws of orders of checks and of reports, for the crates above.
 
 pub mod Order
+pub mod Report

@@ -1,6 +1,6 @@
 -- The numbers that are given back: a refusal is a number and an item.
 use Prim.Native.Nat.{ℕ}
-use mathlib.Core.Bool.{Bool, true, false}
+use mathlib.Core.Bool.{Bool, true, false, cond}
 use Rattle.refusal.specs.declared.LimitItem.{LimitItem}
 use Rattle.refusal.specs.declared.LimitItem.the-variants.{File, Sections, LoaderSymbols, SheetList, Relocations, DataImage}
 use Rattle.refusal.specs.declared.BoundsItem.{BoundsItem}
@@ -21,6 +21,7 @@ use Rattle.refusal.specs.declared.RoomItem.{RoomItem}
 use Rattle.refusal.specs.declared.RoomItem.the-variants.{TextBuffer, SheetBuffer, RowBuffer, RecordBuffer, DataBuffer, AddressList}
 use Rattle.refusal.specs.declared.Refusal.{Refusal}
 use Rattle.refusal.specs.declared.Refusal.the-variants.{Short, Magic, Limit, Kind, Bounds, Address, Strings, Index, Aux, Name, Scnum, Csect, Module, Thread, Loader, Lsym, Lrel, Overlap, Plan, Room, Sheet, Record, Form, Clash}
+use Rattle.refusal.specs.declared.Head.{Head}
 use Rattle.refusal.specs.declared.Verdict.{Verdict}
 use Rattle.refusal.specs.declared.Verdict.the-variants.{Accepted, Refused}
 
@@ -84,7 +85,7 @@ moduleItem EntryOrToc = 4
 
 abbrev pub threadItem : ThreadItem → ℕ
 threadItem (ThreadSection i) = i .0
-threadItem (ThreadSymbol i) = i
+threadItem (ThreadSymbol i) = i .0
 
 abbrev pub loaderItem : LoaderItem → ℕ
 loaderItem ShortHeader = 0
@@ -125,8 +126,8 @@ itemOf (Module i) = moduleItem i
 itemOf (Thread i) = threadItem i
 itemOf (Loader i) = loaderItem i
 itemOf (Lsym i) = i
-itemOf (Lrel i) = i
-itemOf (Overlap i) = i
+itemOf (Lrel i) = i .0
+itemOf (Overlap i) = i .0
 itemOf (Plan i) = planItem i
 itemOf (Room i) = roomItem i
 itemOf Sheet = 0
@@ -134,22 +135,14 @@ itemOf (Record i) = i
 itemOf Form = 0
 itemOf Clash = 0
 
--- the number and the item of a verdict: 0 and 0 where it accepts
-abbrev pub reportNumber : Verdict → ℕ
-reportNumber Accepted = 0
-reportNumber (Refused x) = numberOf x
+-- what every report starts with: the number and the item of a refusal, 0 and 0 where the call is accepted
+abbrev pub reportHead : Verdict → Head
+reportHead Accepted = record { number = 0; item = 0 }
+reportHead (Refused x) = record { number = numberOf x; item = itemOf x }
 
-abbrev pub reportItem : Verdict → ℕ
-reportItem Accepted = 0
-reportItem (Refused x) = itemOf x
-
--- document 01's number and item of an answer that is a verdict
-pub record VerdictReport : Type 0 where
-  pub number : ℕ
-  pub item : ℕ
-
-abbrev pub reportOfVerdict : Verdict → VerdictReport
-reportOfVerdict v = record { number = reportNumber v; item = reportItem v }
+-- 1 for yes, 0 for no
+abbrev pub oneIf : Bool → ℕ
+oneIf b = cond b 1 0
 
 abbrev pub isRefused : Verdict → Bool
 isRefused Accepted = false

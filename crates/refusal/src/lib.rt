@@ -1,8 +1,8 @@
 // Why a file, plan, sheet or buffer is refused: one case for each number of document 01, and under it one for each cause.
 ghost use mathlib.Core.Path.{_≡_};
 ghost use lib.ListN.{length};
-ghost use Rattle.refusal.specs.Part.{rangeBytes, Within};
-ghost use Rattle.refusal.specs.Refusal.{numberOf, itemOf, isRefused, limitItem, boundsItem, addressItem, indexItem, moduleItem, threadItem, loaderItem, planItem, roomItem};
+ghost use Rattle.refusal.specs.Part.{rangeBytes, Within, reportOfRange};
+ghost use Rattle.refusal.specs.Refusal.{numberOf, itemOf, reportHead, oneIf, isRefused, limitItem, boundsItem, addressItem, indexItem, moduleItem, threadItem, loaderItem, planItem, roomItem};
 use format::FileRange;
 use format::SectionNumber;
 use format::SymbolIndex;
@@ -47,10 +47,13 @@ pub enum ModuleItem {
     EntryOrToc,
 }
 
+// A relocation entry of the loader section, from 0: an entry's number alone does not say which table it is in.
+pub struct LoaderRelocation(pub u64);
+
 // 14 THREAD: a tdata or tbss section, or a relocation entry with symbol index -1 or -2.
 pub enum ThreadItem {
     ThreadSection(SectionNumber),
-    ThreadSymbol(u64),
+    ThreadSymbol(LoaderRelocation),
 }
 
 // 15 LOADER: what is wrong with the loader header, or which table passes the section.
@@ -108,10 +111,9 @@ pub enum Refusal {
     Loader(LoaderItem),
     // a loader symbol, from 3
     Lsym(u64),
-    // a relocation entry, from 0
-    Lrel(u64),
+    Lrel(LoaderRelocation),
     // the later of two relocation entries
-    Overlap(u64),
+    Overlap(LoaderRelocation),
     Plan(PlanItem),
     Room(RoomItem),
     // a malformed plan sheet
@@ -134,6 +136,21 @@ pub enum Verdict {
 pub enum RangeAnswer {
     Found(FileRange),
     Refused(Refusal),
+}
+
+// What every report starts with: document 01's number, 0 where the call is accepted, and item.
+#[repr(C)]
+pub struct Head {
+    pub number: u64,
+    pub item: u64,
+}
+
+// A part of the file by its offset and length.
+#[repr(C)]
+pub struct RangeReport {
+    pub head: Head,
+    pub offset: u64,
+    pub length: u64,
 }
 
 fn limit_item(x: LimitItem) -> u64
@@ -196,7 +213,7 @@ fn thread_item(x: ThreadItem) -> u64
 {
     match x {
         ThreadItem::ThreadSection(n) => n.0,
-        ThreadItem::ThreadSymbol(i) => i,
+        ThreadItem::ThreadSymbol(i) => i.0,
     }
 }
 
@@ -289,8 +306,8 @@ pub fn item(x: Refusal) -> u64
         Refusal::Thread(i) => thread_item(i),
         Refusal::Loader(i) => loader_item(i),
         Refusal::Lsym(i) => i,
-        Refusal::Lrel(i) => i,
-        Refusal::Overlap(i) => i,
+        Refusal::Lrel(i) => i.0,
+        Refusal::Overlap(i) => i.0,
         Refusal::Plan(i) => plan_item(i),
         Refusal::Room(i) => room_item(i),
         Refusal::Sheet => 0,
@@ -298,6 +315,30 @@ pub fn item(x: Refusal) -> u64
         Refusal::Form => 0,
         Refusal::Clash => 0,
     }
+}
+
+// The head of an answer's report: every report is made with it.
+pub fn report_head(v: Verdict) -> Head
+    ensures { λ r. ⌜ r ≡ reportHead v ⌝ }
+{
+    match v {
+        Verdict::Accepted => Head { number: 0, item: 0 },
+        Verdict::Refused(x) => {
+            let number = number(x);
+            let item = item(x);
+            Head { number, item }
+        }
+    }
+}
+
+// A yes or no as a number.
+pub fn one_if(b: bool) -> u64
+    ensures { λ r. ⌜ r ≡ oneIf b ⌝ }
+{
+    if b {
+        return 1;
+    }
+    0
 }
 
 pub fn refuses(v: Verdict) -> bool
@@ -321,4 +362,24 @@ pub fn part_of<'a>(file: &'a [u8], a: RangeAnswer) -> &'a [u8]
     let start = from.0 as usize;
     let end = start + p.length as usize;
     &file[start..end]
+}
+
+pub fn report_range(a: RangeAnswer) -> RangeReport
+    ensures { λ r. ⌜ r ≡ reportOfRange a ⌝ }
+{
+    match a {
+        RangeAnswer::Refused(x) => RangeReport {
+            head: report_head(Verdict::Refused(x)),
+            offset: 0,
+            length: 0,
+        },
+        RangeAnswer::Found(p) => {
+            let start = p.start;
+            RangeReport {
+                head: report_head(Verdict::Accepted),
+                offset: start.0,
+                length: p.length,
+            }
+        }
+    }
 }

@@ -18,7 +18,7 @@ unfolding isWidth
 p7 = (refl, refl, refl)
 
 -- P8: an entry of type 0F00 is LREL, whatever else it holds: its width is 16
-pub p8 : (f : Format) (p : Parts) (nsyms i : ℕ) (e : RelocationEntry) → e .rtype ≡ 0x0F00 → isThread e ≡ false → ownCheck f p nsyms i e ≡ Refused (Lrel i)
+pub p8 : (f : Format) (p : Parts) (nsyms i : ℕ) (e : RelocationEntry) → e .rtype ≡ 0x0F00 → isThread e ≡ false → ownCheck f p nsyms i e ≡ Refused (Lrel (record { 0 = i }))
 unfolding ownCheck isGood isWidth isType
 p8 Xcoff32 p nsyms i e t h = rw (h, t) refl
 p8 Xcoff64 p nsyms i e t h = rw (h, t) refl

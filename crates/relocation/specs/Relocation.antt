@@ -77,7 +77,7 @@ isGood f p nsyms e = isType (e .rtype % 256) && isWidth f (widthBits (e .rtype))
 
 -- entry i by itself: THREAD, LREL
 unfoldable pub ownCheck : Format → Parts → ℕ → ℕ → RelocationEntry → Verdict
-ownCheck f p nsyms i e = refuseIf (isThread e) (Thread (ThreadSymbol i)) orElse refuseIf (not (isGood f p nsyms e)) (Lrel i)
+ownCheck f p nsyms i e = refuseIf (isThread e) (Thread (ThreadSymbol (record { 0 = i }))) orElse refuseIf (not (isGood f p nsyms e)) (Lrel (record { 0 = i }))
 
 -- the field that an entry names: in text or in data, its offset there, and its width
 unfoldable pub placeOf : Parts → RelocationEntry → FieldPlace

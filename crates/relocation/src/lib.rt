@@ -10,6 +10,7 @@ use format::VirtualAddress;
 use loader_header::LoaderTables;
 use parts::Part;
 use parts::Parts;
+use refusal::LoaderRelocation;
 use refusal::Refusal;
 use refusal::ThreadItem;
 use refusal::Verdict;
@@ -145,12 +146,12 @@ pub fn check_own(file: &[u8], f: Format, p: Parts, t: LoaderTables, i: u64) -> V
 {
     let e = entry_in(file, f, t, i);
     if 0xFFFF_FFFE <= e.symbol {
-        return Verdict::Refused(Refusal::Thread(ThreadItem::ThreadSymbol(i)));
+        return Verdict::Refused(Refusal::Thread(ThreadItem::ThreadSymbol(LoaderRelocation(i))));
     }
     if is_good(f, p, t.nsyms, e) {
         return Verdict::Accepted;
     }
-    Verdict::Refused(Refusal::Lrel(i))
+    Verdict::Refused(Refusal::Lrel(LoaderRelocation(i)))
 }
 
 // The field of an entry that is inside its section.

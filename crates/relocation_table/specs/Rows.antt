@@ -4,7 +4,7 @@ use mathlib.Core.List.{List, [], _∷_}
 use Rattle.relocation.specs.Relocation.{bytesWide, entryIn}
 use Rattle.loadable.specs.declared.Loadable.{Loadable}
 use Rattle.plan.specs.Relocatable.{relocationAt}
-use Rattle.report.specs.Report.{oneIf}
+use Rattle.refusal.specs.Refusal.{oneIf}
 use Rattle.module_table.specs.Table.{Table}
 
 -- relocation entry i as it stands, and its field: 1 in text, 0 in data; the offset in that image; the bytes; 1 where it subtracts

@@ -4,24 +4,14 @@ ghost use Prim.Native.Nat.{_*_, _<_};
 ghost use lib.ListN.{length};
 ghost use Rattle.relocation.specs.Relocation.{bytesWide};
 ghost use Rattle.loadable.specs.Valid.{Valid};
-ghost use Rattle.report.specs.Report.{oneIf};
 ghost use Rattle.rows.specs.Rows.{rowsOf};
 ghost use Rattle.module_table.specs.Table.{checkBy, tableCheck, rowsBy, tableAfter};
 ghost use Rattle.relocation_table.specs.Rows.{relocationRow, relocations};
 ghost use Rattle.refusal.specs.Order.{ifAccepted};
-ghost use Rattle.refusal.specs.Refusal.{reportOfVerdict};
+ghost use Rattle.refusal.specs.Refusal.{reportHead};
 use loadable::Loadable;
 use loadable::LoadableAnswer;
 use refusal::Verdict;
-
-fn one_if(b: bool) -> u64
-    ensures { λ r. ⌜ r ≡ oneIf b ⌝ }
-{
-    if b {
-        return 1;
-    }
-    0
-}
 
 fn bytes_wide(wide: bool) -> u64
     ensures { λ r. ⌜ r ≡ bytesWide wide ⌝ }
@@ -49,10 +39,10 @@ fn relocation_row(file: &[u8], l: Loadable, i: u64) -> [u64; 8]
         e.symbol,
         e.rtype,
         e.scnum,
-        one_if(place.text),
+        refusal::one_if(place.text),
         place.offset,
         bytes_wide(place.wide),
-        one_if(r.minus),
+        refusal::one_if(r.minus),
     ]
 }
 
@@ -88,7 +78,7 @@ fn list_relocations(file: &[u8], l: Loadable, out: &mut [u64]) -> Verdict
 // A row of 8 numbers for each relocation entry.
 pub fn relocation_table(file: &[u8], out: &mut [u64]) -> Verdict
     ensures cause { λ r. ⌜ r ≡ tableCheck relocations (now (file .entry)) (length (now (out .entry))) ⌝ }
-    ensures report { λ r. ⌜ reportOfVerdict r ≡ reportOfVerdict (tableCheck relocations (now (file .entry)) (length (now (out .entry)))) ⌝ }
+    ensures report { λ r. ⌜ reportHead r ≡ reportHead (tableCheck relocations (now (file .entry)) (length (now (out .entry)))) ⌝ }
     ensures rows { λ _. ⌜ now (out .exit) ≡ tableAfter relocations (now (file .entry)) (now (out .entry)) ⌝ }
 {
     let a = loadable::module_of(file);

@@ -7,7 +7,7 @@ use native.Mathlib.Nat.{add-zero}
 use lib.ListN.{length, getD, drop, length-append, length-drop}
 use lib.Seq.{drop-drop, getD-drop, take-append-seam, drop-append-seam}
 use Rattle.history.specs.Plan.{Plan}
-use Rattle.history.specs.Call.{Call, build}
+use Rattle.history.specs.Call.{Call, build, move}
 use Rattle.replay.specs.Script.{planEnd, planAt, callEnd, callAt, callsFrom, callsOf, planNumbers, callNumbers, encode}
 use Rattle.replay.proofs.Ends.{plan-whole, call-none, call-build, call-move, callAt-build, callAt-move}
 use Rattle.replay.proofs.Calls.{calls-none, calls-more}
@@ -83,7 +83,7 @@ module _ (s : List ℕ) (at : ℕ) (rest : List ℕ) where
       }
 
   -- a move
-  move-read : (p q : Plan) → drop at s ≡ 1 ∷ (planNumbers p ++ (planNumbers q ++ rest)) → ReadCall s at (Call.move p q) rest
+  move-read : (p q : Plan) → drop at s ≡ 1 ∷ (planNumbers p ++ (planNumbers q ++ rest)) → ReadCall s at (move p q) rest
   move-read p q e =
       let r = from-drop s at _ e 1 in
       let z : getD s at 0 ≡ 0 → ⊥ = (let o = from-first s at _ e in λ x. absurd (omega arith)) in
@@ -94,8 +94,8 @@ module _ (s : List ℕ) (at : ℕ) (rest : List ℕ) where
       record {
         there = λ x. absurd (omega arith);
         call =
-            sym (callAt-move s at z) ∙ ap (λ (u : Plan). Call.move u (planAt s (planEnd s (at + 1)))) (plan-numbers-at s (at + 1) p (planNumbers q ++ rest) r)
-            ∙ ap (Call.move p) (plan-numbers-at s (planEnd s (at + 1)) q rest r′);
+            sym (callAt-move s at z) ∙ ap (λ (u : Plan). move u (planAt s (planEnd s (at + 1)))) (plan-numbers-at s (at + 1) p (planNumbers q ++ rest) r)
+            ∙ ap (move p) (plan-numbers-at s (planEnd s (at + 1)) q rest r′);
         after = ap (λ (k : ℕ). drop k s) (sym h ∙ b) ∙ plan-numbers-rest s (planEnd s (at + 1)) q rest r′;
       }
 
@@ -103,7 +103,7 @@ module _ (s : List ℕ) (at : ℕ) (rest : List ℕ) where
   call-read : (c : Call) → drop at s ≡ callNumbers c ++ rest → ReadCall s at c rest
   unfolding callNumbers
   call-read (build p) e = build-read p e
-  call-read (Call.move p q) e = move-read p q (e ∙ ap (λ (l : List ℕ). 1 ∷ l) (append-assoc (planNumbers p) (planNumbers q) rest))
+  call-read (move p q) e = move-read p q (e ∙ ap (λ (l : List ℕ). 1 ∷ l) (append-assoc (planNumbers p) (planNumbers q) rest))
 
 -- ---- a list of calls
 
@@ -127,7 +127,7 @@ encode-longer (build p ∷ cs) =
     let a = length-append (planNumbers p) (encode cs) in
     let h = encode-longer cs in
     omega arith
-encode-longer (Call.move p q ∷ cs) =
+encode-longer (move p q ∷ cs) =
     let a = length-append (planNumbers p ++ planNumbers q) (encode cs) in
     let h = encode-longer cs in
     omega arith

@@ -6,7 +6,7 @@ use native.Mathlib.Decide.{decLe, decLt}
 use native.Mathlib.Omega.{arith}
 use lib.ListN.{length, getD}
 use borrow.Author.Tests.{eq-eqb, ne-eqb, le-leb, lt-leb, lt-ltb, le-ltb}
-use Rattle.history.specs.Call.{Call, build}
+use Rattle.history.specs.Call.{Call, build, move}
 use Rattle.replay.specs.Script.{planEnd, planAt, callEnd, callAt}
 
 module _ (s : List ℕ) (at : ℕ) where
@@ -66,7 +66,7 @@ module _ (s : List ℕ) (at : ℕ) where
   callAt-build e = rw (eq-eqb (getD s at 0) 0 e) refl
 
   -- any other number begins a move
-  pub callAt-move : (getD s at 0 ≡ 0 → ⊥) → Call.move (planAt s (at + 1)) (planAt s (planEnd s (at + 1))) ≡ callAt s at
+  pub callAt-move : (getD s at 0 ≡ 0 → ⊥) → move (planAt s (at + 1)) (planAt s (planEnd s (at + 1))) ≡ callAt s at
   unfolding callAt
   callAt-move e = rw (ne-eqb (getD s at 0) 0 e) refl
 

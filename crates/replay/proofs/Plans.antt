@@ -6,7 +6,7 @@ use native.Mathlib.Omega.{arith}
 use lib.ListN.{length, getD, take, drop}
 use Rattle.history.specs.Images.{Images}
 use Rattle.history.specs.Plan.{Plan, Relocatable}
-use Rattle.history.specs.Call.{Call, build, effect}
+use Rattle.history.specs.Call.{Call, build, move, effect}
 use Rattle.displacement.specs.declared.Addresses.{Addresses}
 use Rattle.displacement.specs.Reach.{planOf}
 use Rattle.replay.specs.Script.{planEnd, planAt}
@@ -55,9 +55,9 @@ module _ (m : Relocatable) (x y : Images) (s : List ℕ) (at : ℕ) where
   -- a move between what was read is the move between the two plans
   pub moved-plans : (next : ℕ) (a b : Addresses) (l r : List ℕ) → next ≡ planEnd s at
       → AddressesAt s at a → l ≡ planAt s at .list → AddressesAt s next b → r ≡ planAt s next .list
-      → y ≡ effect m (Call.move (planOf a l) (planOf b r)) x → y ≡ effect m (Call.move (planAt s at) (planAt s (planEnd s at))) x
+      → y ≡ effect m (move (planOf a l) (planOf b r)) x → y ≡ effect m (move (planAt s at) (planAt s (planEnd s at))) x
   moved-plans next a b l r n h e h′ e′ k =
-      k ∙ ap₂ (λ (p q : Plan). effect m (Call.move p q) x) (plan-read s at a l h e) (plan-read s next b r h′ e′ ∙ ap (planAt s) n)
+      k ∙ ap₂ (λ (p q : Plan). effect m (move p q) x) (plan-read s at a l h e) (plan-read s next b r h′ e′ ∙ ap (planAt s) n)
 
 -- equal calls have one effect
 pub by-call : (m : Relocatable) (x y : Images) (c d : Call) → y ≡ effect m c x → c ≡ d → y ≡ effect m d x

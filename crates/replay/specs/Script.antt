@@ -6,7 +6,7 @@ use Prim.Native.Nat.{ℕ, zero, suc, _+_, _-_}
 use lib.ListN.{length, getD, take, drop}
 use lib.Dec.{eqb, leb, ltb}
 use Rattle.history.specs.Plan.{Plan}
-use Rattle.history.specs.Call.{Call, build}
+use Rattle.history.specs.Call.{Call, build, move}
 
 -- where the plan at a place ends, 0 where it is cut short
 unfoldable pub planEnd : List ℕ → ℕ → ℕ
@@ -24,7 +24,7 @@ callEnd s at =
     0
 
 unfoldable pub callAt : List ℕ → ℕ → Call
-callAt s at = cond (eqb (getD s at 0) 0) (build (planAt s (at + 1))) (Call.move (planAt s (at + 1)) (planAt s (planEnd s (at + 1))))
+callAt s at = cond (eqb (getD s at 0) 0) (build (planAt s (at + 1))) (move (planAt s (at + 1)) (planAt s (planEnd s (at + 1))))
 
 -- at most n calls from a place
 unfoldable pub callsFrom : ℕ → List ℕ → ℕ → List Call
@@ -42,7 +42,7 @@ planNumbers p = p .text ∷ p .dat ∷ length (p .list) ∷ p .list
 
 unfoldable pub callNumbers : Call → List ℕ
 callNumbers (build p) = 0 ∷ planNumbers p
-callNumbers (Call.move p q) = 1 ∷ (planNumbers p ++ planNumbers q)
+callNumbers (move p q) = 1 ∷ (planNumbers p ++ planNumbers q)
 
 -- the numbers of a list of calls: callsOf gives the list back
 unfoldable pub encode : List Call → List ℕ

@@ -3,7 +3,7 @@ ghost use mathlib.Core.Path.{_≡_};
 ghost use Prim.Native.Nat.{_+_, _≤_};
 ghost use lib.ListN.{length, getD};
 ghost use Rattle.history.specs.Images.{images};
-ghost use Rattle.history.specs.Call.{Call, build, effect};
+ghost use Rattle.history.specs.Call.{Call, build, move, effect};
 ghost use Rattle.history.specs.Book.{bookImages, bookAfter};
 ghost use Rattle.plan.specs.Relocatable.{relocatableAt};
 ghost use Rattle.replay.specs.Script.{planEnd, planAt, callEnd, callAt, callsOf};
@@ -83,7 +83,7 @@ fn do_build(file: &[u8], s: &[u64], at: usize, text: &mut [u8], data: &mut [u8])
 // Moves from the plan at a place to the one after it.
 fn do_move(file: &[u8], s: &[u64], at: usize, text: &mut [u8], data: &mut [u8]) -> CallAnswer
     requires { ⌜ (planEnd (now s) at ≡ 0 → ⊥) × (planEnd (now s) (planEnd (now s) at) ≡ 0 → ⊥) ⌝ }
-    ensures { λ _. ⌜ images (now (text .exit)) (now («data» .exit)) ≡ effect (relocatableAt (now (file .entry))) (Call.move (planAt (now (s .entry)) at) (planAt (now (s .entry)) (planEnd (now (s .entry)) at))) (images (now (text .entry)) (now («data» .entry))) ⌝ }
+    ensures { λ _. ⌜ images (now (text .exit)) (now («data» .exit)) ≡ effect (relocatableAt (now (file .entry))) (move (planAt (now (s .entry)) at) (planAt (now (s .entry)) (planEnd (now (s .entry)) at))) (images (now (text .entry)) (now («data» .entry))) ⌝ }
 {
     let next = plan_end(s, at);
     let from = addresses_at(s, at);

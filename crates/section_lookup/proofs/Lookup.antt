@@ -1,6 +1,6 @@
 -- Laws of a section that is looked up. Assumes nothing.
 use Prim.Native.Nat.{ℕ, _+_, _-_, _≤_, _<_}
-use mathlib.Core.Path.{_≡_, refl, ap}
+use mathlib.Core.Path.{_≡_, refl}
 use mathlib.Core.Bool.{false, true≢false, _||_}
 use mathlib.Core.List.{List}
 use native.Mathlib.Decide.{ℕ-discrete}
@@ -19,15 +19,15 @@ use Rattle.refusal.specs.declared.RangeAnswer.the-variants as range
 use Rattle.refusal.specs.declared.Verdict.{Verdict}
 use Rattle.refusal.specs.declared.Verdict.the-variants as verdict
 use Rattle.refusal.specs.Order.{_orElse_, byVerdict}
-use Rattle.refusal.specs.Part.{Within}
+use Rattle.refusal.specs.Part.{Within, reportOfRange, InFile}
+use Rattle.refusal.proofs.Report.{range-inside}
 use Rattle.refusal.proofs.Order.{accepted-first, accepted-rest, accepted-test}
-use Rattle.section.specs.declared.SectionAnswer.{SectionAnswer}
 use Rattle.section.specs.declared.SectionAnswer.the-variants.{Found, Refused}
 use Rattle.header.specs.declared.Opened.{Opened}
 use Rattle.file_header.specs.Header.{sectionStart}
 use Rattle.file_tables.specs.Tables.{blankSection}
 use Rattle.header.specs.Open.{openOf}
-use Rattle.section_lookup.specs.Lookup.{numberCheck, lookupCheck, sectionAt, nameOf, sectionNameAt, reportOfSection, sectionReport}
+use Rattle.section_lookup.specs.Lookup.{numberCheck, lookupCheck, sectionAt, nameOf, sectionNameAt}
 use Rattle.file_header.proofs.Fields.{section-whole}
 use Rattle.header.specs.Inside.{Inside}
 use Rattle.header.proofs.Accepted.{opened-inside}
@@ -78,9 +78,6 @@ module _ (file : List ℕ) (n : SectionNumber) where
   unfolding sectionAt
   section-found q e k = rw (q, ← e, k)
 
-  pub section-reported : {a : SectionAnswer} → a ≡ sectionAt file n → (a ≡ sectionAt file n) × (reportOfSection a ≡ sectionReport file n)
-  section-reported e = (e, ap reportOfSection e)
-
   pub name-refused : {v : Verdict} (x : Refusal) → v ≡ lookupCheck file n → v ≡ verdict.Refused x → range.Refused x ≡ sectionNameAt file n
   unfolding sectionNameAt
   name-refused x e k = rw (← e, k)
@@ -99,3 +96,6 @@ module _ (file : List ℕ) (n : SectionNumber) where
   pub name-within : Within (length file) (sectionNameAt file n)
   unfolding sectionNameAt
   name-within = name-in (lookupCheck file n) refl
+
+  pub section-name-inside : InFile file (reportOfRange (sectionNameAt file n))
+  section-name-inside = range-inside file (sectionNameAt file n) name-within

@@ -1,11 +1,12 @@
 -- A section looked up by its number: opening's refusals, then INDEX.
-use Prim.Native.Nat.{ℕ, _-_}
+use Prim.Native.Nat.{ℕ, _-_, _%_}
 use mathlib.Core.Bool.{_||_}
 use mathlib.Core.List.{List}
 use lib.Dec.{eqb, ltb}
 use lib.ListN.{getD}
 use Rattle.format.specs.declared.FileRange.{FileRange}
 use Rattle.format.specs.declared.SectionNumber.{SectionNumber}
+use Rattle.section_kind.specs.Kind.{flagsOf}
 use Rattle.format.specs.Layout.{sectionLayout}
 use Rattle.format.specs.Range.{textIn}
 use Rattle.refusal.specs.declared.RangeAnswer.{RangeAnswer}
@@ -15,14 +16,14 @@ use Rattle.refusal.specs.declared.Verdict.{Verdict}
 use Rattle.refusal.specs.declared.Verdict.the-variants as verdict
 use Rattle.refusal.specs.Order.{_orElse_, refuseIf, byVerdict}
 use Rattle.refusal.specs.declared.RangeAnswer.the-variants as range
-use Rattle.refusal.specs.Refusal.{reportNumber, reportItem}
-use Rattle.section.specs.declared.Section.{Section}
+use Rattle.refusal.specs.Refusal.{reportHead, oneIf}
 use Rattle.section.specs.declared.SectionAnswer.{SectionAnswer}
 use Rattle.section.specs.declared.SectionAnswer.the-variants.{Found, Refused}
 use Rattle.header.specs.declared.Summary.{Summary}
 use Rattle.file_header.specs.Header.{sectionStart}
-use Rattle.file_tables.specs.Tables.{blankSection, verdictOf, recordOf}
+use Rattle.file_tables.specs.Tables.{blankSection}
 use Rattle.header.specs.Open.{openOf}
+use Rattle.section_lookup.specs.declared.SectionReport.{SectionReport}
 
 -- INDEX: sections are numbered from one
 unfoldable pub numberCheck : ℕ → SectionNumber → Verdict
@@ -42,14 +43,20 @@ nameOf file y n = textIn (sectionLayout (y .format) .name) (sectionStart (y .for
 unfoldable pub sectionNameAt : List ℕ → SectionNumber → RangeAnswer
 sectionNameAt file n = byVerdict (lookupCheck file n) (range.Found (nameOf file (openOf file .summary) n)) range.Refused
 
--- document 01's number (0: accepted), item and values of the answer
-pub record SectionReport : Type 0 where
-  pub number : ℕ
-  pub item : ℕ
-  pub section : Section
-
+-- the answer in document 01's numbers
 abbrev pub reportOfSection : SectionAnswer → SectionReport
-reportOfSection a = record { number = reportNumber (verdictOf a); item = reportItem (verdictOf a); section = recordOf a }
+reportOfSection (Found s) =
+    record {
+      head = reportHead verdict.Accepted;
+      paddr = s .paddr .0;
+      vaddr = s .vaddr .0;
+      size = s .size;
+      scnptr = s .scnptr .0;
+      flag = flagsOf (s .kind) % 65536;
+      raw = oneIf (s .raw);
+    }
+reportOfSection (Refused x) =
+    record { head = reportHead (verdict.Refused x); paddr = 0; vaddr = 0; size = 0; scnptr = 0; flag = 0; raw = 0 }
 
 abbrev pub sectionReport : List ℕ → SectionNumber → SectionReport
 sectionReport file n = reportOfSection (sectionAt file n)

@@ -2,15 +2,28 @@
 ghost use mathlib.Core.Path.{_≡_};
 ghost use Prim.Native.Nat.{_<_};
 ghost use Rattle.refusal.specs.Order.{_orElse_};
-ghost use Rattle.refusal.specs.Part.{rangeBytes};
+ghost use Rattle.refusal.specs.Part.{rangeBytes, reportOfRange};
 ghost use Rattle.section_lookup.specs.Lookup.{numberCheck, sectionAt, sectionReport, reportOfSection, sectionNameAt};
 use format::SectionNumber;
+use refusal::Head;
 use refusal::IndexItem;
 use refusal::RangeAnswer;
 use refusal::Refusal;
 use refusal::Verdict;
 use section::Section;
 use section::SectionAnswer;
+
+// `flag` is the low 16 bits of the section's flags, `raw` 1 where raw data exists.
+#[repr(C)]
+pub struct SectionReport {
+    pub head: Head,
+    pub paddr: u64,
+    pub vaddr: u64,
+    pub size: u64,
+    pub scnptr: u64,
+    pub flag: u64,
+    pub raw: u64,
+}
 
 // Opening's refusal, or INDEX where the file has no section `n`.
 fn check_number(v: Verdict, count: u64, n: SectionNumber) -> Verdict
@@ -49,7 +62,8 @@ pub fn section_at(file: &[u8], n: SectionNumber) -> SectionAnswer
 
 // Where the name of section `n` lies.
 pub fn section_name_range(file: &[u8], n: SectionNumber) -> RangeAnswer
-    ensures { λ r. ⌜ r ≡ sectionNameAt (now (file .entry)) n ⌝ }
+    ensures cause { λ r. ⌜ r ≡ sectionNameAt (now (file .entry)) n ⌝ }
+    ensures report { λ r. ⌜ reportOfRange r ≡ reportOfRange (sectionNameAt (now (file .entry)) n) ⌝ }
 {
     let o = header::open(file);
     let s = o.summary;
@@ -73,4 +87,35 @@ pub fn section_name<'a>(file: &'a [u8], n: SectionNumber) -> &'a [u8]
 {
     let a = section_name_range(file, n);
     refusal::part_of(file, a)
+}
+
+pub fn report_section(a: SectionAnswer) -> SectionReport
+    ensures { λ r. ⌜ r ≡ reportOfSection a ⌝ }
+{
+    match a {
+        SectionAnswer::Refused(x) => SectionReport {
+            head: refusal::report_head(Verdict::Refused(x)),
+            paddr: 0,
+            vaddr: 0,
+            size: 0,
+            scnptr: 0,
+            flag: 0,
+            raw: 0,
+        },
+        SectionAnswer::Found(s) => {
+            let paddr = s.paddr;
+            let vaddr = s.vaddr;
+            let scnptr = s.scnptr;
+            let kind = s.kind;
+            SectionReport {
+                head: refusal::report_head(Verdict::Accepted),
+                paddr: paddr.0,
+                vaddr: vaddr.0,
+                size: s.size,
+                scnptr: scnptr.0,
+                flag: kind.flags() % 65536,
+                raw: refusal::one_if(s.raw),
+            }
+        }
+    }
 }

@@ -14,7 +14,7 @@ use Rattle.refusal.specs.declared.RoomItem.the-variants.{SheetBuffer}
 use Rattle.refusal.specs.declared.Verdict.{Verdict}
 use Rattle.refusal.specs.declared.Verdict.the-variants as verdict
 use Rattle.refusal.specs.Order.{_orElse_, refuseIf, byVerdict, ifAccepted}
-use Rattle.refusal.specs.Refusal.{isRefused, reportOfVerdict}
+use Rattle.refusal.specs.Refusal.{isRefused, reportHead}
 use Rattle.refusal.proofs.Order.{accepts, accepted-first, accepted-rest, accepted-equal, accepted-most}
 use Rattle.sheet.specs.declared.SheetAnswer.{SheetAnswer}
 use Rattle.sheet.specs.declared.SheetAnswer.the-variants.{Found, Refused}
@@ -60,11 +60,7 @@ Reads w s l r l′ =
 abbrev pub Writes : ℕ → ℕ → ℕ → List ℕ → List ℕ → Verdict → List ℕ → Type 0
 Writes w text dat list sheet v sheet′ =
     (v ≡ writeCheck w (length list) (length sheet))
-    × ((reportOfVerdict v ≡ reportOfVerdict (writeCheck w (length list) (length sheet))) × (sheet′ ≡ writeSheet w text dat list sheet))
-
--- an answer that is known has its report
-pub reported : (a b : SheetAnswer) → a ≡ b → (a ≡ b) × (reportOfSheet a ≡ reportOfSheet b)
-reported a b e = (e, ap reportOfSheet e)
+    × ((reportHead v ≡ reportHead (writeCheck w (length list) (length sheet))) × (sheet′ ≡ writeSheet w text dat list sheet))
 
 -- the answers by the check of the sheet
 module _ (w : ℕ) (s : List ℕ) {v : Verdict} (e : v ≡ sheetCheck w s) where
@@ -107,12 +103,12 @@ module _ (w text dat : ℕ) (list sheet : List ℕ) {v : Verdict} (e : v ≡ wri
   unfolding writeSheet
   written k p q =
       let c = sym (accepts v k) ∙ e in
-      (c, (ap reportOfVerdict c, rw (← c) (q ∙ rw p (sheet-written w text dat list sheet (room-enough w list sheet e k .1)))))
+      (c, (ap reportHead c, rw (← c) (q ∙ rw p (sheet-written w text dat list sheet (room-enough w list sheet e k .1)))))
 
   -- it refuses, and the sheet is as it was
   pub unwritten : isRefused v ≡ true → Writes w text dat list sheet v sheet
   unfolding writeSheet
-  unwritten k = (e, (ap reportOfVerdict e, rw (← e) (as-before v k)))
+  unwritten k = (e, (ap reportHead e, rw (← e) (as-before v k)))
     where
       as-before : (u : Verdict) → isRefused u ≡ true → sheet ≡ ifAccepted u (sheetBytes w text dat list) sheet
       as-before verdict.Accepted r = cc

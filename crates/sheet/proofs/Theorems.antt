@@ -8,12 +8,16 @@ use borrow.Author.Tests.{le-ltb, eq-eqb}
 use lib.ListN.{length, getD, drop}
 use Rattle.word.specs.Number.{fieldAt}
 use Rattle.update.specs.Update.{bytesOfNumber, Bytes}
+use Rattle.refusal.specs.declared.Verdict.{Verdict}
 use Rattle.refusal.specs.declared.Verdict.the-variants.{Accepted}
-use Rattle.sheet.specs.Sheet.{headLength, sheetLength, firstCount, headOf, numbersFrom, addressesOf, sheetCheck, readCheck, addressBytes, sheetBytes, writeCheck, headBy, readAnswer, readList, writeSheet}
+use Rattle.refusal.specs.declared.Verdict.the-variants as verdict
+use Rattle.sheet.specs.Sheet.{headLength, sheetLength, firstCount, headOf, numbersFrom, addressesOf, sheetCheck, roomCheck, readCheck, addressBytes, sheetBytes, writeCheck, headBy, readAnswer, readList, writeSheet}
 use Rattle.sheet.proofs.Addresses.{length-numbers, length-sheet, field-first, field-later, numbers-later, numbers-addresses, bytes-then, addresses-numbers}
 use Rattle.sheet.proofs.Answers.{first-two, few-addresses, whole-length, room-enough}
 use Rattle.format.specs.Limit.{sheetListLimit}
-use Rattle.sheet.specs.declared.SheetAnswer.the-variants.{Found}
+use Rattle.sheet.specs.declared.SheetAnswer.the-variants.{Found, Refused}
+use Rattle.sheet.specs.declared.SheetHead.{SheetHead}
+use Rattle.refusal.specs.Order.{_orElse_, byVerdict}
 use Rattle.refusal.specs.Refusal.{isRefused}
 use Rattle.refusal.proofs.Order.{accepted-first}
 
@@ -102,10 +106,17 @@ module _ (w : ℕ) (s : List ℕ) (b : Bytes s) (e : sheetCheck w s ≡ Accepted
       let k : ℕ = headOf w s .count in
       rw (length-list, whole-length w s e, le-ltb sheetListLimit k (few-addresses w s e), eq-eqb (sheetLength w k) (sheetLength w k) refl) refl
 
--- "a sheet that was read writes back as the same bytes": what reading gave and left in a list, written into any buffer of the sheet's length, is accepted and leaves the sheet.
-pub read-writes-back : (w : ℕ) (s list sheet : List ℕ) → Bytes s → readCheck w s (length list) ≡ Accepted → length sheet ≡ length s
-    → (writeCheck w (length (readList w s list)) (length sheet) ≡ Accepted) × (writeSheet w (headOf w s .text .0) (headOf w s .«data» .0) (readList w s list) sheet ≡ s)
-unfolding readCheck readList writeSheet
-read-writes-back w s list sheet b e n =
+-- an answer that gives a head was accepted, and gives that head
+found-head : (v : Verdict) {a h : SheetHead} → byVerdict v (Found a) Refused ≡ Found h → (v ≡ Accepted) × (a ≡ h)
+found-head Accepted e = (refl, cc)
+found-head (verdict.Refused x) e = let z : _≡_ {A = ℕ} 0 1 = cc in absurd (omega arith)
+
+-- "a sheet that was read writes back as the same bytes": what reading answered and left in a list, written into any buffer of the sheet's length, is accepted and leaves the sheet.
+pub read-writes-back : (w : ℕ) (s list sheet : List ℕ) {h : SheetHead} → Bytes s → readAnswer w s (length list) ≡ Found h → length sheet ≡ length s
+    → (writeCheck w (length (readList w s list)) (length sheet) ≡ Accepted) × (writeSheet w (h .text .0) (h .«data» .0) (readList w s list) sheet ≡ s)
+unfolding readAnswer readCheck readList writeSheet
+read-writes-back w s list sheet b k n =
+    let f = found-head (sheetCheck w s orElse roomCheck (length list) (headOf w s)) k in
+    let e = f .0 in
     let c = accepted-first (sheetCheck w s) _ e in
-    (rw (e, n) (read-length w s b c), rw (e, n, read-length w s b c) (read-bytes w s b c))
+    rw (← f .1) (rw (e, n) (read-length w s b c), rw (e, n, read-length w s b c) (read-bytes w s b c))

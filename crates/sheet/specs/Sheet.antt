@@ -12,10 +12,11 @@ use Rattle.refusal.specs.declared.RoomItem.the-variants.{SheetBuffer, AddressLi
 use Rattle.refusal.specs.declared.Verdict.{Verdict}
 use Rattle.refusal.specs.declared.Verdict.the-variants as verdict
 use Rattle.refusal.specs.Order.{_orElse_, refuseIf, byVerdict, ifAccepted}
-use Rattle.refusal.specs.Refusal.{reportNumber, reportItem}
+use Rattle.refusal.specs.Refusal.{reportHead}
 use Rattle.sheet.specs.declared.SheetAnswer.{SheetAnswer}
 use Rattle.sheet.specs.declared.SheetAnswer.the-variants.{Found, Refused}
 use Rattle.sheet.specs.declared.SheetHead.{SheetHead}
+use Rattle.sheet.specs.declared.SheetReport.{SheetReport}
 use Rattle.format.specs.Limit.{sheetListLimit}
 
 -- the bytes before the list
@@ -90,15 +91,7 @@ writeCheck w k room =
 unfoldable pub writeSheet : ℕ → ℕ → ℕ → List ℕ → List ℕ → List ℕ
 writeSheet w text dat list sheet = ifAccepted (writeCheck w (length list) (length sheet)) (sheetBytes w text dat list) sheet
 
--- document 01's number (0: accepted), item and values of the answer
-pub record SheetReport : Type 0 where
-  pub number : ℕ
-  pub item : ℕ
-  pub text : ℕ
-  pub dat : ℕ
-  pub count : ℕ
-
+-- the answer in document 01's numbers
 abbrev pub reportOfSheet : SheetAnswer → SheetReport
-reportOfSheet (Found h) = record { number = 0; item = 0; text = h .text .0; dat = h .«data» .0; count = h .count }
-reportOfSheet (Refused x) =
-    record { number = reportNumber (verdict.Refused x); item = reportItem (verdict.Refused x); text = 0; dat = 0; count = 0 }
+reportOfSheet (Found h) = record { head = reportHead verdict.Accepted; text = h .text .0; «data» = h .«data» .0; count = h .count }
+reportOfSheet (Refused x) = record { head = reportHead (verdict.Refused x); text = 0; «data» = 0; count = 0 }

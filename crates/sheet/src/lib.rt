@@ -7,8 +7,9 @@ ghost use Rattle.update.specs.Update.{putField};
 ghost use Rattle.format.specs.Limit.{sheetListLimit};
 ghost use Rattle.refusal.specs.Order.{byVerdict, ifAccepted};
 ghost use Rattle.sheet.specs.Sheet.{headLength, sheetLength, headOf, numbersFrom, sheetCheck, roomCheck, headAnswer, readAnswer, readList, addressBytes, writeCheck, writeSheet, reportOfSheet};
-ghost use Rattle.refusal.specs.Refusal.{reportOfVerdict};
+ghost use Rattle.refusal.specs.Refusal.{reportHead};
 use format::VirtualAddress;
+use refusal::Head;
 use refusal::LimitItem;
 use refusal::Refusal;
 use refusal::RoomItem;
@@ -24,6 +25,14 @@ pub struct SheetHead {
 pub enum SheetAnswer {
     Found(SheetHead),
     Refused(Refusal),
+}
+
+#[repr(C)]
+pub struct SheetReport {
+    pub head: Head,
+    pub text: u64,
+    pub data: u64,
+    pub count: u64,
 }
 
 // The bytes before the list: count 2, the text and data addresses, count k.
@@ -166,7 +175,7 @@ pub fn write_sheet(
     sheet: &mut [u8],
 ) -> Verdict
     ensures cause { λ r. ⌜ r ≡ writeCheck 2 (length (now (list .entry))) (length (now (sheet .entry))) ⌝ }
-    ensures report { λ r. ⌜ reportOfVerdict r ≡ reportOfVerdict (writeCheck 2 (length (now (list .entry))) (length (now (sheet .entry)))) ⌝ }
+    ensures report { λ r. ⌜ reportHead r ≡ reportHead (writeCheck 2 (length (now (list .entry))) (length (now (sheet .entry)))) ⌝ }
     ensures sheet { λ _. ⌜ now (sheet .exit) ≡ writeSheet 2 (text .0) («data» .0) (now (list .entry)) (now (sheet .entry)) ⌝ }
 {
     let v = check_write(list.len() as u64, sheet.len() as u64);
@@ -176,4 +185,27 @@ pub fn write_sheet(
     write_head(text, data, list.len() as u16, sheet);
     write_list(list, sheet);
     Verdict::Accepted
+}
+
+pub fn report_sheet(a: SheetAnswer) -> SheetReport
+    ensures { λ r. ⌜ r ≡ reportOfSheet a ⌝ }
+{
+    match a {
+        SheetAnswer::Found(h) => {
+            let text = h.text;
+            let data = h.data;
+            SheetReport {
+                head: refusal::report_head(Verdict::Accepted),
+                text: text.0,
+                data: data.0,
+                count: h.count,
+            }
+        }
+        SheetAnswer::Refused(x) => SheetReport {
+            head: refusal::report_head(Verdict::Refused(x)),
+            text: 0,
+            data: 0,
+            count: 0,
+        },
+    }
 }

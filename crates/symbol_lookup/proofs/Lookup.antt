@@ -9,7 +9,8 @@ use Rattle.refusal.specs.declared.Refusal.{Refusal}
 use Rattle.refusal.specs.declared.RangeAnswer.the-variants as range
 use Rattle.refusal.specs.declared.Verdict.{Verdict}
 use Rattle.refusal.specs.declared.Verdict.the-variants as verdict
-use Rattle.refusal.specs.Part.{rangeBytes, Within}
+use Rattle.refusal.specs.Part.{rangeBytes, Within, reportOfRange, InFile}
+use Rattle.refusal.proofs.Report.{range-inside}
 use Rattle.header.specs.declared.Opened.{Opened}
 use Rattle.header.specs.Open.{openOf}
 use Rattle.symbol.specs.declared.Tables.{Tables}
@@ -72,6 +73,9 @@ module _ (file : List ℕ) (i : SymbolIndex) where
   pub name-within : Within (length file) (symbolNameAt file i)
   unfolding symbolNameAt
   name-within = name-in (symbolAt file i) refl
+
+  pub symbol-name-inside : InFile file (reportOfRange (symbolNameAt file i))
+  symbol-name-inside = range-inside file (symbolNameAt file i) name-within
 
   -- and its bytes hold no zero
   no-zero-in : (a : SymbolAnswer) → NoZero (rangeBytes file (nameBehind file (openOf file) i a))

@@ -1,11 +1,12 @@
 -- A symbol looked up in a file by its index, and its name.
-use Prim.Native.Nat.{ℕ}
+use Prim.Native.Nat.{ℕ, suc, _-_, _^_}
 use mathlib.Core.List.{List}
 use lib.IntN.{ℤ, pos, negsuc}
 use Rattle.format.specs.declared.SymbolIndex.{SymbolIndex}
 use Rattle.refusal.specs.declared.RangeAnswer.{RangeAnswer}
 use Rattle.refusal.specs.declared.RangeAnswer.the-variants as range
-use Rattle.refusal.specs.Refusal.{numberOf, itemOf}
+use Rattle.refusal.specs.declared.Verdict.the-variants as verdict
+use Rattle.refusal.specs.Refusal.{reportHead}
 use Rattle.refusal.specs.Order.{byVerdict}
 use Rattle.header.specs.declared.Opened.{Opened}
 use Rattle.header.specs.Open.{openOf}
@@ -16,6 +17,7 @@ use Rattle.symbol.specs.declared.SymbolAnswer.the-variants.{Found, Refused}
 use Rattle.symbol.specs.Entry.{tablesOf}
 use Rattle.symbol.specs.Name.{nameIn}
 use Rattle.symbol.specs.Symbol.{entryOf, symbolIn}
+use Rattle.symbol_lookup.specs.declared.SymbolReport.{SymbolReport}
 
 -- opening's refusals come first
 unfoldable pub symbolAt : List ℕ → SymbolIndex → SymbolAnswer
@@ -30,27 +32,24 @@ nameBehind file o i (Found s) = nameIn file (tablesOf (o .summary)) i (entryOf f
 unfoldable pub symbolNameAt : List ℕ → SymbolIndex → RangeAnswer
 symbolNameAt file i = nameBehind file (openOf file) i (symbolAt file i)
 
--- document 01's number (0: accepted), item and values of the answer: `n_scnum` is signed
+-- `n_scnum` is signed
 abbrev pub scnumOf : SymbolSection → ℤ
 scnumOf Debug = negsuc 1
 scnumOf Absolute = negsuc 0
 scnumOf Undefined = pos 0
 scnumOf (In n) = pos (n .0)
 
-pub record SymbolReport : Type 0 where
-  pub number : ℕ
-  pub item : ℕ
-  pub value : ℕ
-  pub scnum : ℤ
-  pub ntype : ℕ
-  pub sclass : ℕ
-  pub numaux : ℕ
+-- a signed number in 64 bits, two's complement
+abbrev pub signed64 : ℤ → ℕ
+signed64 (pos n) = n
+signed64 (negsuc n) = 2 ^ 64 - suc n
 
+-- the answer in document 01's numbers
 abbrev pub reportOfSymbol : SymbolAnswer → SymbolReport
 reportOfSymbol (Found s) =
-    record { number = 0; item = 0; value = s .value; scnum = scnumOf (s .section); ntype = s .ntype; sclass = s .sclass; numaux = s .numaux }
+    record { head = reportHead verdict.Accepted; value = s .value; scnum = signed64 (scnumOf (s .section)); ntype = s .ntype; sclass = s .sclass; numaux = s .numaux }
 reportOfSymbol (Refused x) =
-    record { number = numberOf x; item = itemOf x; value = 0; scnum = pos 0; ntype = 0; sclass = 0; numaux = 0 }
+    record { head = reportHead (verdict.Refused x); value = 0; scnum = 0; ntype = 0; sclass = 0; numaux = 0 }
 
 abbrev pub symbolReport : List ℕ → SymbolIndex → SymbolReport
 symbolReport file i = reportOfSymbol (symbolAt file i)

@@ -2,19 +2,32 @@
 ghost use mathlib.Core.Path.{_≡_};
 ghost use Prim.Native.Nat.{_+_, _≤_, _<_};
 ghost use lib.ListN.{length};
-ghost use Rattle.refusal.specs.Part.{rangeBytes};
+ghost use Rattle.refusal.specs.Part.{rangeBytes, reportOfRange};
 ghost use Rattle.symbol.specs.Entry.{TablesInside};
 ghost use Rattle.symbol.specs.Name.{stringIn, nameIn};
-ghost use Rattle.symbol_lookup.specs.Lookup.{symbolAt, symbolNameAt, reportOfSymbol, symbolReport};
+ghost use Rattle.symbol_lookup.specs.Lookup.{symbolAt, symbolNameAt, scnumOf, signed64, reportOfSymbol, symbolReport};
 use format::FileOffset;
 use format::FileRange;
 use format::NameField;
 use format::SymbolIndex;
+use refusal::Head;
 use refusal::RangeAnswer;
 use refusal::Refusal;
 use refusal::Verdict;
 use symbol::SymbolAnswer;
+use symbol::SymbolSection;
 use symbol::Tables;
+
+// `scnum` is signed, in two's complement.
+#[repr(C)]
+pub struct SymbolReport {
+    pub head: Head,
+    pub value: u64,
+    pub scnum: u64,
+    pub ntype: u64,
+    pub sclass: u64,
+    pub numaux: u64,
+}
 
 // The symbol at an index: opening's refusals, then INDEX, AUX, SECTION, NAME.
 pub fn symbol_at(file: &[u8], i: SymbolIndex) -> SymbolAnswer
@@ -88,7 +101,8 @@ fn name_range(file: &[u8], t: Tables, i: SymbolIndex, name: NameField) -> RangeA
 
 // Where the name of the symbol at an index lies; the refusals are those of `symbol_at`.
 pub fn symbol_name_range(file: &[u8], i: SymbolIndex) -> RangeAnswer
-    ensures { λ r. ⌜ r ≡ symbolNameAt (now (file .entry)) i ⌝ }
+    ensures cause { λ r. ⌜ r ≡ symbolNameAt (now (file .entry)) i ⌝ }
+    ensures report { λ r. ⌜ reportOfRange r ≡ reportOfRange (symbolNameAt (now (file .entry)) i) ⌝ }
 {
     let a = symbol_at(file, i);
     match a {
@@ -112,4 +126,41 @@ pub fn symbol_name<'a>(file: &'a [u8], i: SymbolIndex) -> &'a [u8]
 {
     let a = symbol_name_range(file, i);
     refusal::part_of(file, a)
+}
+
+fn scnum_of(s: SymbolSection) -> u64
+    ensures { λ r. ⌜ r ≡ signed64 (scnumOf s) ⌝ }
+{
+    match s {
+        SymbolSection::Debug => 0xFFFF_FFFF_FFFF_FFFE,
+        SymbolSection::Absolute => 0xFFFF_FFFF_FFFF_FFFF,
+        SymbolSection::Undefined => 0,
+        SymbolSection::In(n) => n.0,
+    }
+}
+
+pub fn report_symbol(a: SymbolAnswer) -> SymbolReport
+    ensures { λ r. ⌜ r ≡ reportOfSymbol a ⌝ }
+{
+    match a {
+        SymbolAnswer::Refused(x) => SymbolReport {
+            head: refusal::report_head(Verdict::Refused(x)),
+            value: 0,
+            scnum: 0,
+            ntype: 0,
+            sclass: 0,
+            numaux: 0,
+        },
+        SymbolAnswer::Found(s) => {
+            let section = s.section;
+            SymbolReport {
+                head: refusal::report_head(Verdict::Accepted),
+                value: s.value,
+                scnum: scnum_of(section),
+                ntype: s.ntype,
+                sclass: s.sclass,
+                numaux: s.numaux,
+            }
+        }
+    }
 }

@@ -20,7 +20,6 @@ use Rattle.csect.specs.declared.CsectAnswer.{CsectAnswer}
 use Rattle.csect.specs.declared.CsectAnswer.the-variants.{Found, Refused}
 use Rattle.csect.specs.Csect.{carriesCsect, isMarked, isMapped, typedCsect, ownCsect, ownAfter}
 use Rattle.csect_lookup.specs.Lookup.{isContained, contained, csectAfter, csectIn, csectReport, reportOfCsect}
-use Rattle.report.specs.Report.{cCsect}
 use Rattle.symbol_table.specs.Table.{OpenTables}
 use Rattle.symbol_table.proofs.Opened.{csect-is}
 
@@ -47,10 +46,10 @@ in-table : (file : List ℕ) (t : Tables) (i : SymbolIndex) {s : Symbol} → sym
 unfolding csectIn csectAfter ownAfter
 in-table file t i {s} e = rw e (held file t i (ownCsect file t i s) (own file t i s))
 
-number-of : (a : CsectAnswer) → Csect12 a → (cCsect (reportOfCsect a) .number ≡ 0) ⊎ (cCsect (reportOfCsect a) .number ≡ 12)
+number-of : (a : CsectAnswer) → Csect12 a → (reportOfCsect a .head .number ≡ 0) ⊎ (reportOfCsect a .head .number ≡ 12)
 number-of (Found c) e = inl refl
 number-of (Refused x) e = inr e
 
 -- of a symbol that is found
-pub csect-number : (file : List ℕ) (t : Tables) → OpenTables file t → (i : SymbolIndex) {s : Symbol} → symbolIn file t i ≡ symbol.Found s → (cCsect (csectReport file i) .number ≡ 0) ⊎ (cCsect (csectReport file i) .number ≡ 12)
+pub csect-number : (file : List ℕ) (t : Tables) → OpenTables file t → (i : SymbolIndex) {s : Symbol} → symbolIn file t i ≡ symbol.Found s → (csectReport file i .head .number ≡ 0) ⊎ (csectReport file i .head .number ≡ 12)
 csect-number file t o i e = rw (csect-is file t o i refl) (number-of (csectIn file t i) (in-table file t i e))

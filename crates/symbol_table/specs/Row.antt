@@ -16,7 +16,6 @@ use Rattle.symbol.specs.Entry.{tablesOf, entryStart}
 use Rattle.symbol.specs.Symbol.{entryOf}
 use Rattle.symbol_lookup.specs.Lookup.{symbolReport}
 use Rattle.csect_lookup.specs.Lookup.{csectReport}
-use Rattle.report.specs.Report.{cSymbol, cCsect}
 
 -- where a name starts, and how many bytes it may take: the entry's own 8, or all from its offset to the string table's end. It ends at the first zero in them
 unfoldable pub nameSpan : Tables → SymbolIndex → NameField → FileRange
@@ -30,7 +29,7 @@ symbolSpan file i = let t = tablesOf (openOf file .summary) in nameSpan t i (ent
 -- its index, its numbers, its name's start and room; the number of its csect entry's refusal or 0, and that entry's numbers
 unfoldable pub symbolRow : List ℕ → ℕ → List ℕ
 symbolRow file i =
-    let s = cSymbol (symbolReport file (record { 0 = i })) in
+    let s = symbolReport file (record { 0 = i }) in
     let name = symbolSpan file (record { 0 = i }) in
-    let c = cCsect (csectReport file (record { 0 = i })) in
-    i ∷ s .value ∷ s .scnum ∷ s .ntype ∷ s .sclass ∷ s .numaux ∷ name .start .0 ∷ name .length ∷ c .number ∷ c .kind ∷ c .align ∷ c .smclas ∷ c .length ∷ []
+    let c = csectReport file (record { 0 = i }) in
+    i ∷ s .value ∷ s .scnum ∷ s .ntype ∷ s .sclass ∷ s .numaux ∷ name .start .0 ∷ name .length ∷ c .head .number ∷ c .kind ∷ c .align ∷ c .smclas ∷ c .length ∷ []

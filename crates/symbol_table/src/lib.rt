@@ -67,8 +67,9 @@ fn symbol_row(file: &[u8], t: Tables, ends: u64, i: SymbolIndex, s: Symbol) -> [
     let field = format::read_name_field(file, f, base as usize);
     let name = name_span(file, t, i, field);
     let start = name.start;
-    let y = report::report_symbol(SymbolAnswer::Found(s));
-    let c = report::report_csect(csect_lookup::csect_in(file, t, ends, i));
+    let y = symbol_lookup::report_symbol(SymbolAnswer::Found(s));
+    let c = csect_lookup::report_csect(csect_lookup::csect_in(file, t, ends, i));
+    let csect = c.head;
     [
         i.0,
         y.value,
@@ -78,7 +79,7 @@ fn symbol_row(file: &[u8], t: Tables, ends: u64, i: SymbolIndex, s: Symbol) -> [
         y.numaux,
         start.0,
         name.length,
-        c.number,
+        csect.number,
         c.kind,
         c.align,
         c.smclas,

@@ -5,13 +5,14 @@ use mathlib.Core.List.{List}
 use lib.Dec.{leb}
 use Rattle.refusal.specs.declared.Verdict.{Verdict}
 use Rattle.refusal.specs.declared.Verdict.the-variants as verdict
-use Rattle.refusal.specs.Refusal.{numberOf, itemOf, reportNumber, reportItem}
+use Rattle.refusal.specs.Refusal.{reportHead}
 use Rattle.header.specs.Open.{openOf}
 use Rattle.symbol.specs.declared.Tables.{Tables}
 use Rattle.symbol.specs.declared.SymbolAnswer.{SymbolAnswer}
 use Rattle.symbol.specs.declared.SymbolAnswer.the-variants as symbol
 use Rattle.walk.specs.declared.WalkEnd.{WalkEnd}
 use Rattle.walk.specs.declared.WalkAnswer.{WalkAnswer}
+use Rattle.walk.specs.declared.WalkReport.{WalkReport}
 use Rattle.walk.specs.declared.WalkAnswer.the-variants.{Ended, Refused}
 use Rattle.symbol.specs.Entry.{tablesOf}
 use Rattle.symbol.specs.Symbol.{symbolIn}
@@ -41,20 +42,12 @@ walkIn file t = walkFrom file t (t .count) 0 0
 unfoldable pub walkOf : List ℕ → WalkAnswer
 walkOf file = byVerdict (openOf file .verdict) (Ended (walkIn file (tablesOf (openOf file .summary)))) Refused
 
--- document 01's number (0: the file is accepted), item and values of the answer; a walk that stops is an answer, and names its cause
-pub record WalkReport : Type 0 where
-  pub number : ℕ
-  pub item : ℕ
-  pub visited : ℕ
-  pub end : ℕ
-  pub causeNumber : ℕ
-  pub causeItem : ℕ
-
+-- the answer in document 01's numbers; a walk that stops is an answer, and its cause has a head of its own
 abbrev pub reportOfWalk : WalkAnswer → WalkReport
 reportOfWalk (Ended w) =
-    record { number = 0; item = 0; visited = w .visited; end = w .end .0; causeNumber = reportNumber (w .cause); causeItem = reportItem (w .cause) }
+    record { head = reportHead verdict.Accepted; visited = w .visited; end = w .end .0; cause = reportHead (w .cause) }
 reportOfWalk (Refused x) =
-    record { number = numberOf x; item = itemOf x; visited = 0; end = 0; causeNumber = 0; causeItem = 0 }
+    record { head = reportHead (verdict.Refused x); visited = 0; end = 0; cause = reportHead verdict.Accepted }
 
 abbrev pub walkReport : List ℕ → WalkReport
 walkReport file = reportOfWalk (walkOf file)

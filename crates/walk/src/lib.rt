@@ -5,6 +5,7 @@ ghost use Rattle.word.specs.Zero.{ZeroEnd};
 ghost use Rattle.symbol.specs.Entry.{TablesInside};
 ghost use Rattle.walk.specs.Walk.{walkIn, walkOf, reportOfWalk, walkReport};
 use format::SymbolIndex;
+use refusal::Head;
 use refusal::Refusal;
 use refusal::Verdict;
 use symbol::SymbolAnswer;
@@ -20,6 +21,15 @@ pub struct WalkEnd {
 pub enum WalkAnswer {
     Ended(WalkEnd),
     Refused(Refusal),
+}
+
+// `cause` is why the walk stopped at `end`: number 0 at the table's end.
+#[repr(C)]
+pub struct WalkReport {
+    pub head: Head,
+    pub visited: u64,
+    pub end: u64,
+    pub cause: Head,
 }
 
 // The walk over the tables of an opened file.
@@ -68,6 +78,29 @@ pub fn walk(file: &[u8]) -> WalkAnswer
             let strings = t.strings;
             let ends = symbol::names_end(file, strings);
             WalkAnswer::Ended(walk_tables(file, t, ends))
+        }
+    }
+}
+
+pub fn report_walk(a: WalkAnswer) -> WalkReport
+    ensures { λ r. ⌜ r ≡ reportOfWalk a ⌝ }
+{
+    match a {
+        WalkAnswer::Refused(x) => WalkReport {
+            head: refusal::report_head(Verdict::Refused(x)),
+            visited: 0,
+            end: 0,
+            cause: refusal::report_head(Verdict::Accepted),
+        },
+        WalkAnswer::Ended(w) => {
+            let end = w.end;
+            let cause = w.cause;
+            WalkReport {
+                head: refusal::report_head(Verdict::Accepted),
+                visited: w.visited,
+                end: end.0,
+                cause: refusal::report_head(cause),
+            }
         }
     }
 }

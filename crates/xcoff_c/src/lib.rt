@@ -12,7 +12,7 @@ ghost use Rattle.import_id.specs.Import.{importAt};
 ghost use lib.ListN.{length};
 ghost use Rattle.sheet.specs.Sheet.{headAnswer, readAnswer, readList, writeCheck, writeSheet, reportOfSheet};
 ghost use Rattle.history.specs.Images.{images};
-ghost use Rattle.history.specs.Call.{Call, build, answerOf, effect};
+ghost use Rattle.history.specs.Call.{Call, build, move, answerOf, effect};
 ghost use Rattle.history.specs.Book.{bookImages, bookAfter};
 ghost use Rattle.plan.specs.Relocatable.{relocatableAt};
 ghost use Rattle.image.specs.Report.{reportOfCall};
@@ -23,160 +23,154 @@ ghost use Rattle.module_table.specs.Table.{tableCheck, tableAfter};
 ghost use Rattle.loader_symbol_table.specs.Rows.{loaderSymbols};
 ghost use Rattle.relocation_table.specs.Rows.{relocations};
 ghost use Rattle.import_table.specs.Imports.{imports};
-ghost use Rattle.report_image.specs.Report.{cCall, cSheet, cLength, cVerdict};
-ghost use Rattle.report.specs.Report.{cOpen, cSection, cRange, cSymbol, cWalk, cCsect, cModule, cLoaderSymbol};
-ghost use Rattle.refusal.specs.Refusal.{reportOfVerdict};
+ghost use Rattle.refusal.specs.Part.{reportOfRange};
+ghost use Rattle.refusal.specs.Refusal.{reportHead};
+use csect_lookup::CsectReport;
 use displacement::Addresses;
 use format::SectionNumber;
 use format::SymbolIndex;
 use format::VirtualAddress;
+use header::OpenReport;
+use image::CallReport;
 use import_id::ImportString;
-use report::CCsect;
-use report::CLoaderSymbol;
-use report::CModule;
-use report::COpen;
-use report::CRange;
-use report::CSection;
-use report::CSymbol;
-use report::CWalk;
-use report_image::CCall;
-use report_image::CLength;
-use report_image::CSheet;
-use report_image::CVerdict;
+use loadable::ModuleReport;
+use lookup::LoaderSymbolReport;
+use refusal::Head;
+use refusal::RangeReport;
+use section_lookup::SectionReport;
+use sheet::SheetReport;
+use srecord::LengthReport;
+use symbol_lookup::SymbolReport;
+use walk::WalkReport;
 
 // Opens a file: its format and how much it holds.
 #[no_mangle]
-pub extern "C" fn xcoff_open(file: &[u8]) -> COpen
-    ensures { λ r. ⌜ r ≡ cOpen (openReport (now (file .entry))) ⌝ }
+pub extern "C" fn xcoff_open(file: &[u8]) -> OpenReport
+    ensures { λ r. ⌜ r ≡ openReport (now (file .entry)) ⌝ }
 {
-    report::report_open(header::open(file))
+    header::report_open(header::open(file))
 }
 
 // The record of section `n`, from 1.
 #[no_mangle]
-pub extern "C" fn xcoff_section(file: &[u8], n: u64) -> CSection
-    ensures { λ r. ⌜ r ≡ cSection (sectionReport (now (file .entry)) (record { 0 = n })) ⌝ }
+pub extern "C" fn xcoff_section(file: &[u8], n: u64) -> SectionReport
+    ensures { λ r. ⌜ r ≡ sectionReport (now (file .entry)) (record { 0 = n }) ⌝ }
 {
-    report::report_section(section_lookup::section_at(file, SectionNumber(n)))
+    section_lookup::report_section(section_lookup::section_at(file, SectionNumber(n)))
 }
 
 // Its name.
 #[no_mangle]
-pub extern "C" fn xcoff_section_name(file: &[u8], n: u64) -> CRange
-    ensures { λ r. ⌜ r ≡ cRange (sectionNameAt (now (file .entry)) (record { 0 = n })) ⌝ }
+pub extern "C" fn xcoff_section_name(file: &[u8], n: u64) -> RangeReport
+    ensures { λ r. ⌜ r ≡ reportOfRange (sectionNameAt (now (file .entry)) (record { 0 = n })) ⌝ }
 {
-    report::report_range(section_lookup::section_name_range(file, SectionNumber(n)))
+    refusal::report_range(section_lookup::section_name_range(file, SectionNumber(n)))
 }
 
 // The symbol table entry with index `i`, from 0.
 #[no_mangle]
-pub extern "C" fn xcoff_symbol(file: &[u8], i: u64) -> CSymbol
-    ensures { λ r. ⌜ r ≡ cSymbol (symbolReport (now (file .entry)) (record { 0 = i })) ⌝ }
+pub extern "C" fn xcoff_symbol(file: &[u8], i: u64) -> SymbolReport
+    ensures { λ r. ⌜ r ≡ symbolReport (now (file .entry)) (record { 0 = i }) ⌝ }
 {
-    report::report_symbol(symbol_lookup::symbol_at(file, SymbolIndex(i)))
+    symbol_lookup::report_symbol(symbol_lookup::symbol_at(file, SymbolIndex(i)))
 }
 
 // Its name.
 #[no_mangle]
-pub extern "C" fn xcoff_symbol_name(file: &[u8], i: u64) -> CRange
-    ensures { λ r. ⌜ r ≡ cRange (symbolNameAt (now (file .entry)) (record { 0 = i })) ⌝ }
+pub extern "C" fn xcoff_symbol_name(file: &[u8], i: u64) -> RangeReport
+    ensures { λ r. ⌜ r ≡ reportOfRange (symbolNameAt (now (file .entry)) (record { 0 = i })) ⌝ }
 {
-    report::report_range(symbol_lookup::symbol_name_range(file, SymbolIndex(i)))
+    refusal::report_range(symbol_lookup::symbol_name_range(file, SymbolIndex(i)))
 }
 
 // Walks the symbol table from its first entry.
 #[no_mangle]
-pub extern "C" fn xcoff_walk(file: &[u8]) -> CWalk
-    ensures { λ r. ⌜ r ≡ cWalk (walkReport (now (file .entry))) ⌝ }
+pub extern "C" fn xcoff_walk(file: &[u8]) -> WalkReport
+    ensures { λ r. ⌜ r ≡ walkReport (now (file .entry)) ⌝ }
 {
-    report::report_walk(walk::walk(file))
+    walk::report_walk(walk::walk(file))
 }
 
 // The csect entry of the symbol with index `i`.
 #[no_mangle]
-pub extern "C" fn xcoff_csect(file: &[u8], i: u64) -> CCsect
-    ensures { λ r. ⌜ r ≡ cCsect (csectReport (now (file .entry)) (record { 0 = i })) ⌝ }
+pub extern "C" fn xcoff_csect(file: &[u8], i: u64) -> CsectReport
+    ensures { λ r. ⌜ r ≡ csectReport (now (file .entry)) (record { 0 = i }) ⌝ }
 {
-    report::report_csect(csect_lookup::csect_at(file, SymbolIndex(i)))
+    csect_lookup::report_csect(csect_lookup::csect_at(file, SymbolIndex(i)))
 }
 
 // Judges a file as a loadable module.
 #[no_mangle]
-pub extern "C" fn xcoff_module(file: &[u8]) -> CModule
-    ensures { λ r. ⌜ r ≡ cModule (moduleReport (now (file .entry))) ⌝ }
+pub extern "C" fn xcoff_module(file: &[u8]) -> ModuleReport
+    ensures { λ r. ⌜ r ≡ moduleReport (now (file .entry)) ⌝ }
 {
-    report::report_module(loadable::module_of(file))
+    loadable::report_module(loadable::module_of(file))
 }
 
 // The loader symbol with index `i`, from 3.
 #[no_mangle]
-pub extern "C" fn xcoff_loader_symbol(file: &[u8], i: u64) -> CLoaderSymbol
-    ensures { λ r. ⌜ r ≡ cLoaderSymbol (loaderSymbolReport (now (file .entry)) i) ⌝ }
+pub extern "C" fn xcoff_loader_symbol(file: &[u8], i: u64) -> LoaderSymbolReport
+    ensures { λ r. ⌜ r ≡ loaderSymbolReport (now (file .entry)) i ⌝ }
 {
-    report::report_loader_symbol(lookup::loader_symbol(file, i))
+    lookup::report_loader_symbol(lookup::loader_symbol(file, i))
 }
 
 // Its name.
 #[no_mangle]
-pub extern "C" fn xcoff_loader_symbol_name(file: &[u8], i: u64) -> CRange
-    ensures { λ r. ⌜ r ≡ cRange (loaderNameAt (now (file .entry)) i) ⌝ }
+pub extern "C" fn xcoff_loader_symbol_name(file: &[u8], i: u64) -> RangeReport
+    ensures { λ r. ⌜ r ≡ reportOfRange (loaderNameAt (now (file .entry)) i) ⌝ }
 {
-    report::report_range(lookup::loader_symbol_name_range(file, i))
+    refusal::report_range(lookup::loader_symbol_name_range(file, i))
 }
 
 // The path of import id `n`, from 0.
 #[no_mangle]
-pub extern "C" fn xcoff_import_path(file: &[u8], n: u64) -> CRange
-    ensures { λ r. ⌜ r ≡ cRange (importAt (now (file .entry)) n ImportString.Path) ⌝ }
+pub extern "C" fn xcoff_import_path(file: &[u8], n: u64) -> RangeReport
+    ensures { λ r. ⌜ r ≡ reportOfRange (importAt (now (file .entry)) n ImportString.Path) ⌝ }
 {
-    report::report_range(import_id::import_range(file, n, ImportString::Path))
+    refusal::report_range(import_id::import_range(file, n, ImportString::Path))
 }
 
 // Its base name.
 #[no_mangle]
-pub extern "C" fn xcoff_import_base(file: &[u8], n: u64) -> CRange
-    ensures { λ r. ⌜ r ≡ cRange (importAt (now (file .entry)) n ImportString.Base) ⌝ }
+pub extern "C" fn xcoff_import_base(file: &[u8], n: u64) -> RangeReport
+    ensures { λ r. ⌜ r ≡ reportOfRange (importAt (now (file .entry)) n ImportString.Base) ⌝ }
 {
-    report::report_range(import_id::import_range(file, n, ImportString::Base))
+    refusal::report_range(import_id::import_range(file, n, ImportString::Base))
 }
 
 // Its archive member.
 #[no_mangle]
-pub extern "C" fn xcoff_import_member(file: &[u8], n: u64) -> CRange
-    ensures { λ r. ⌜ r ≡ cRange (importAt (now (file .entry)) n ImportString.Member) ⌝ }
+pub extern "C" fn xcoff_import_member(file: &[u8], n: u64) -> RangeReport
+    ensures { λ r. ⌜ r ≡ reportOfRange (importAt (now (file .entry)) n ImportString.Member) ⌝ }
 {
-    report::report_range(import_id::import_range(file, n, ImportString::Member))
+    refusal::report_range(import_id::import_range(file, n, ImportString::Member))
 }
 
 // What a plan sheet says of itself: its addresses, and how many places its list needs.
 #[no_mangle]
-pub extern "C" fn xcoff_sheet_head(sheet: &[u8]) -> CSheet
-    ensures { λ r. ⌜ r ≡ cSheet (reportOfSheet (headAnswer 2 (now (sheet .entry)))) ⌝ }
+pub extern "C" fn xcoff_sheet_head(sheet: &[u8]) -> SheetReport
+    ensures { λ r. ⌜ r ≡ reportOfSheet (headAnswer 2 (now (sheet .entry))) ⌝ }
 {
-    report_image::report_sheet(sheet::sheet_head(sheet))
+    sheet::report_sheet(sheet::sheet_head(sheet))
 }
 
 // Reads a plan sheet into a list of exactly as many places as it has addresses.
 #[no_mangle]
-pub extern "C" fn xcoff_read_sheet(sheet: &[u8], list: &mut [u64]) -> CSheet
-    ensures answer { λ r. ⌜ r ≡ cSheet (reportOfSheet (readAnswer 2 (now (sheet .entry)) (length (now (list .entry))))) ⌝ }
+pub extern "C" fn xcoff_read_sheet(sheet: &[u8], list: &mut [u64]) -> SheetReport
+    ensures answer { λ r. ⌜ r ≡ reportOfSheet (readAnswer 2 (now (sheet .entry)) (length (now (list .entry)))) ⌝ }
     ensures list { λ _. ⌜ now (list .exit) ≡ readList 2 (now (sheet .entry)) (now (list .entry)) ⌝ }
 {
-    report_image::report_sheet(sheet::read_sheet(sheet, list))
+    sheet::report_sheet(sheet::read_sheet(sheet, list))
 }
 
 // Writes the sheet of a plan into a buffer of exactly its length.
 #[no_mangle]
-pub extern "C" fn xcoff_write_sheet(
-    text: u64,
-    data: u64,
-    list: &[u64],
-    sheet: &mut [u8],
-) -> CVerdict
-    ensures answer { λ r. ⌜ r ≡ cVerdict (reportOfVerdict (writeCheck 2 (length (now (list .entry))) (length (now (sheet .entry))))) ⌝ }
+pub extern "C" fn xcoff_write_sheet(text: u64, data: u64, list: &[u64], sheet: &mut [u8]) -> Head
+    ensures answer { λ r. ⌜ r ≡ reportHead (writeCheck 2 (length (now (list .entry))) (length (now (sheet .entry)))) ⌝ }
     ensures sheet { λ _. ⌜ now (sheet .exit) ≡ writeSheet 2 text «data» (now (list .entry)) (now (sheet .entry)) ⌝ }
 {
-    report_image::report_verdict(sheet::write_sheet(
+    refusal::report_head(sheet::write_sheet(
         VirtualAddress(text),
         VirtualAddress(data),
         list,
@@ -193,15 +187,15 @@ pub extern "C" fn xcoff_build(
     list: &[u64],
     text: &mut [u8],
     data: &mut [u8],
-) -> CCall
-    ensures answer { λ r. ⌜ r ≡ cCall (reportOfCall (answerOf (relocatableAt (now (file .entry))) (length (now (text .entry))) (length (now («data» .entry))) (build (record { text = at; dat = dataat; list = now (list .entry) })))) ⌝ }
+) -> CallReport
+    ensures answer { λ r. ⌜ r ≡ reportOfCall (answerOf (relocatableAt (now (file .entry))) (length (now (text .entry))) (length (now («data» .entry))) (build (record { text = at; dat = dataat; list = now (list .entry) }))) ⌝ }
     ensures images { λ _. ⌜ images (now (text .exit)) (now («data» .exit)) ≡ effect (relocatableAt (now (file .entry))) (build (record { text = at; dat = dataat; list = now (list .entry) })) (images (now (text .entry)) (now («data» .entry))) ⌝ }
 {
     let addresses = Addresses {
         text: VirtualAddress(at),
         data: VirtualAddress(dataat),
     };
-    report_image::report_call(image::build_images(file, addresses, list, text, data))
+    image::report_call(image::build_images(file, addresses, list, text, data))
 }
 
 // Moves images from one plan to another, taking the buffers as they are.
@@ -216,9 +210,9 @@ pub extern "C" fn xcoff_move(
     tolist: &[u64],
     text: &mut [u8],
     data: &mut [u8],
-) -> CCall
-    ensures answer { λ r. ⌜ r ≡ cCall (reportOfCall (answerOf (relocatableAt (now (file .entry))) (length (now (text .entry))) (length (now («data» .entry))) (Call.move (record { text = at; dat = dataat; list = now (list .entry) }) (record { text = toat; dat = todataat; list = now (tolist .entry) })))) ⌝ }
-    ensures images { λ _. ⌜ images (now (text .exit)) (now («data» .exit)) ≡ effect (relocatableAt (now (file .entry))) (Call.move (record { text = at; dat = dataat; list = now (list .entry) }) (record { text = toat; dat = todataat; list = now (tolist .entry) })) (images (now (text .entry)) (now («data» .entry))) ⌝ }
+) -> CallReport
+    ensures answer { λ r. ⌜ r ≡ reportOfCall (answerOf (relocatableAt (now (file .entry))) (length (now (text .entry))) (length (now («data» .entry))) (move (record { text = at; dat = dataat; list = now (list .entry) }) (record { text = toat; dat = todataat; list = now (tolist .entry) }))) ⌝ }
+    ensures images { λ _. ⌜ images (now (text .exit)) (now («data» .exit)) ≡ effect (relocatableAt (now (file .entry))) (move (record { text = at; dat = dataat; list = now (list .entry) }) (record { text = toat; dat = todataat; list = now (tolist .entry) })) (images (now (text .entry)) (now («data» .entry))) ⌝ }
 {
     let from = Addresses {
         text: VirtualAddress(at),
@@ -228,7 +222,7 @@ pub extern "C" fn xcoff_move(
         text: VirtualAddress(toat),
         data: VirtualAddress(todataat),
     };
-    report_image::report_call(image::move_images(file, from, list, to, tolist, text, data))
+    image::report_call(image::move_images(file, from, list, to, tolist, text, data))
 }
 
 // Runs the calls that `script` encodes on the two buffers.
@@ -241,14 +235,19 @@ pub extern "C" fn xcoff_replay(file: &[u8], script: &[u64], text: &mut [u8], dat
 
 // How long the record text of a module's images for a plan is.
 #[no_mangle]
-pub extern "C" fn xcoff_records_length(file: &[u8], at: u64, dataat: u64, list: &[u64]) -> CLength
-    ensures { λ r. ⌜ r ≡ cLength (reportOfLength (lengthAnswer (relocatableAt (now (file .entry))) (record { text = at; dat = dataat; list = now (list .entry) }))) ⌝ }
+pub extern "C" fn xcoff_records_length(
+    file: &[u8],
+    at: u64,
+    dataat: u64,
+    list: &[u64],
+) -> LengthReport
+    ensures { λ r. ⌜ r ≡ reportOfLength (lengthAnswer (relocatableAt (now (file .entry))) (record { text = at; dat = dataat; list = now (list .entry) })) ⌝ }
 {
     let addresses = Addresses {
         text: VirtualAddress(at),
         data: VirtualAddress(dataat),
     };
-    report_image::report_length(srecord::records_length(file, addresses, list))
+    srecord::report_length(srecord::records_length(file, addresses, list))
 }
 
 // Writes two images, as they are, as S-records for a plan.
@@ -261,15 +260,15 @@ pub extern "C" fn xcoff_write_records(
     text: &[u8],
     data: &[u8],
     records: &mut [u8],
-) -> CVerdict
-    ensures answer { λ r. ⌜ r ≡ cVerdict (reportOfVerdict (recordWriteCheck (relocatableAt (now (file .entry))) (record { text = at; dat = dataat; list = now (list .entry) }) (length (now (text .entry))) (length (now («data» .entry))) (length (now (records .entry))))) ⌝ }
+) -> Head
+    ensures answer { λ r. ⌜ r ≡ reportHead (recordWriteCheck (relocatableAt (now (file .entry))) (record { text = at; dat = dataat; list = now (list .entry) }) (length (now (text .entry))) (length (now («data» .entry))) (length (now (records .entry)))) ⌝ }
     ensures records { λ _. ⌜ now (records .exit) ≡ recordsWritten (relocatableAt (now (file .entry))) (record { text = at; dat = dataat; list = now (list .entry) }) (now (text .entry)) (now («data» .entry)) (now (records .entry)) ⌝ }
 {
     let addresses = Addresses {
         text: VirtualAddress(at),
         data: VirtualAddress(dataat),
     };
-    report_image::report_verdict(srecord::write_records(file, addresses, list, text, data, records))
+    refusal::report_head(srecord::write_records(file, addresses, list, text, data, records))
 }
 
 // Reads S-records for a plan into two image buffers.
@@ -282,8 +281,8 @@ pub extern "C" fn xcoff_read_records(
     records: &[u8],
     text: &mut [u8],
     data: &mut [u8],
-) -> CVerdict
-    ensures answer { λ r. ⌜ r ≡ cVerdict (reportOfVerdict (recordReadCheck (relocatableAt (now (file .entry))) (record { text = at; dat = dataat; list = now (list .entry) }) (length (now (text .entry))) (length (now («data» .entry))) (now (records .entry)))) ⌝ }
+) -> Head
+    ensures answer { λ r. ⌜ r ≡ reportHead (recordReadCheck (relocatableAt (now (file .entry))) (record { text = at; dat = dataat; list = now (list .entry) }) (length (now (text .entry))) (length (now («data» .entry))) (now (records .entry))) ⌝ }
     ensures text { λ _. ⌜ now (text .exit) ≡ textAfter (relocatableAt (now (file .entry))) (record { text = at; dat = dataat; list = now (list .entry) }) (now (records .entry)) (now (text .entry)) (now («data» .entry)) ⌝ }
     ensures data { λ _. ⌜ now («data» .exit) ≡ dataAfter (relocatableAt (now (file .entry))) (record { text = at; dat = dataat; list = now (list .entry) }) (now (records .entry)) (now (text .entry)) (now («data» .entry)) ⌝ }
 {
@@ -291,41 +290,41 @@ pub extern "C" fn xcoff_read_records(
         text: VirtualAddress(at),
         data: VirtualAddress(dataat),
     };
-    report_image::report_verdict(srecord::read_records(file, addresses, list, records, text, data))
+    refusal::report_head(srecord::read_records(file, addresses, list, records, text, data))
 }
 
 // Lists the symbols that the walk visits: a row of 13 numbers for each.
 #[no_mangle]
-pub extern "C" fn xcoff_symbol_table(file: &[u8], rows: &mut [u64]) -> CWalk
-    ensures answer { λ r. ⌜ r ≡ cWalk (reportOfWalk (symbolTable (now (file .entry)) (length (now (rows .entry))))) ⌝ }
+pub extern "C" fn xcoff_symbol_table(file: &[u8], rows: &mut [u64]) -> WalkReport
+    ensures answer { λ r. ⌜ r ≡ reportOfWalk (symbolTable (now (file .entry)) (length (now (rows .entry)))) ⌝ }
     ensures rows { λ _. ⌜ now (rows .exit) ≡ symbolsAfter (now (file .entry)) (now (rows .entry)) ⌝ }
 {
-    report::report_walk(symbol_table::symbol_table(file, rows))
+    walk::report_walk(symbol_table::symbol_table(file, rows))
 }
 
 // Lists the loader symbols of a module: a row of 9 numbers for each.
 #[no_mangle]
-pub extern "C" fn xcoff_loader_symbol_table(file: &[u8], rows: &mut [u64]) -> CVerdict
-    ensures answer { λ r. ⌜ r ≡ cVerdict (reportOfVerdict (tableCheck loaderSymbols (now (file .entry)) (length (now (rows .entry))))) ⌝ }
+pub extern "C" fn xcoff_loader_symbol_table(file: &[u8], rows: &mut [u64]) -> Head
+    ensures answer { λ r. ⌜ r ≡ reportHead (tableCheck loaderSymbols (now (file .entry)) (length (now (rows .entry)))) ⌝ }
     ensures rows { λ _. ⌜ now (rows .exit) ≡ tableAfter loaderSymbols (now (file .entry)) (now (rows .entry)) ⌝ }
 {
-    report_image::report_verdict(loader_symbol_table::loader_symbol_table(file, rows))
+    refusal::report_head(loader_symbol_table::loader_symbol_table(file, rows))
 }
 
 // Lists its relocation entries: a row of 8 numbers for each.
 #[no_mangle]
-pub extern "C" fn xcoff_relocation_table(file: &[u8], rows: &mut [u64]) -> CVerdict
-    ensures answer { λ r. ⌜ r ≡ cVerdict (reportOfVerdict (tableCheck relocations (now (file .entry)) (length (now (rows .entry))))) ⌝ }
+pub extern "C" fn xcoff_relocation_table(file: &[u8], rows: &mut [u64]) -> Head
+    ensures answer { λ r. ⌜ r ≡ reportHead (tableCheck relocations (now (file .entry)) (length (now (rows .entry)))) ⌝ }
     ensures rows { λ _. ⌜ now (rows .exit) ≡ tableAfter relocations (now (file .entry)) (now (rows .entry)) ⌝ }
 {
-    report_image::report_verdict(relocation_table::relocation_table(file, rows))
+    refusal::report_head(relocation_table::relocation_table(file, rows))
 }
 
 // Lists its import ids: a row of 6 numbers for each.
 #[no_mangle]
-pub extern "C" fn xcoff_import_table(file: &[u8], rows: &mut [u64]) -> CVerdict
-    ensures answer { λ r. ⌜ r ≡ cVerdict (reportOfVerdict (tableCheck imports (now (file .entry)) (length (now (rows .entry))))) ⌝ }
+pub extern "C" fn xcoff_import_table(file: &[u8], rows: &mut [u64]) -> Head
+    ensures answer { λ r. ⌜ r ≡ reportHead (tableCheck imports (now (file .entry)) (length (now (rows .entry)))) ⌝ }
     ensures rows { λ _. ⌜ now (rows .exit) ≡ tableAfter imports (now (file .entry)) (now (rows .entry)) ⌝ }
 {
-    report_image::report_verdict(import_table::import_table(file, rows))
+    refusal::report_head(import_table::import_table(file, rows))
 }

@@ -31,10 +31,10 @@ same-length c = search needs
 
 returns : tie.Need-returns
 returns c =
-    text-applied _ _ _ _ _ _ _ _ _
+    λ p′ q′ f t h. text-applied _ _ _ _ _ _ _ _ _
     (c .before .before .before .before .before .before .before .relocation-at .ensures)
     (c .before .before .before .before .if1 .taken)
-    (c .before .before .before .before .before .shift-of .ensures)
+    (c .before .before .before .before .before .shift-of .ensures p′ q′ f t h)
     (c .before .before .add-to-field .ensures)
 
 add-to-field-requires-2 : tie.Need-add-to-field-requires-2
@@ -50,10 +50,10 @@ same-length-2 c = search needs
 
 returns-2 : tie.Need-returns-2
 returns-2 c =
-    data-applied _ _ _ _ _ _ _ _ _
+    λ p′ q′ f t h. data-applied _ _ _ _ _ _ _ _ _
     (c .before .before .before .before .before .before .before .relocation-at .ensures)
     (c .before .before .before .before .if1 .left)
-    (c .before .before .before .before .before .shift-of .ensures)
+    (c .before .before .before .before .before .shift-of .ensures p′ q′ f t h)
     (c .before .before .add-to-field2 .ensures)
 
 pub apply-entry-spec : {M : Type 1} → statement M

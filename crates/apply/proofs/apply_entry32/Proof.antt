@@ -27,9 +27,9 @@ returns : tie.Need-returns
 returns c =
     let p = c .before .before .before .before .before .before .before .before .before .before .before .before .before .pre in
     let r = c .before .before .before .before .before .before .before .relocation-at .ensures in
-    text-applied _ _ _ _ _ _ _ _ _ r
+    λ p′ q′ f t h. text-applied _ _ _ _ _ _ _ _ _ r
     (c .before .before .before .before .if1 .taken)
-    (c .before .before .before .before .before .shift-of .ensures)
+    (c .before .before .before .before .before .shift-of .ensures p′ q′ f t h)
     (width-added false _ _ _ _ (entry-narrow _ _ _ _ (p .0 .0) (p .0 .1) (p .1 .1 .1) r) (c .before .before .add-to-narrow .ensures))
 
 add-to-narrow-requires-2 : tie.Need-add-to-narrow-requires-2
@@ -46,9 +46,9 @@ returns-2 : tie.Need-returns-2
 returns-2 c =
     let p = c .before .before .before .before .before .before .before .before .before .before .before .before .before .pre in
     let r = c .before .before .before .before .before .before .before .relocation-at .ensures in
-    data-applied _ _ _ _ _ _ _ _ _ r
+    λ p′ q′ f t h. data-applied _ _ _ _ _ _ _ _ _ r
     (c .before .before .before .before .if1 .left)
-    (c .before .before .before .before .before .shift-of .ensures)
+    (c .before .before .before .before .before .shift-of .ensures p′ q′ f t h)
     (width-added false _ _ _ _ (entry-narrow _ _ _ _ (p .0 .0) (p .0 .1) (p .1 .1 .1) r) (c .before .before .add-to-narrow2 .ensures))
 
 pub apply-entry32-spec : {M : Type 1} → statement M

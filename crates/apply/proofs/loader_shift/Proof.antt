@@ -1,9 +1,7 @@
 use borrow.Author.Needs.{needs}
-use mathlib.Core.Path.{refl}
 use native.Mathlib.Omega.{arith}
 use Prim.Native.Nat.{_-_}
-use Rattle.apply.proofs.Stands.{import-in, loader-stands}
-use Rattle.apply.specs.Shift.{followedShift}
+use Rattle.apply.proofs.Stands.{import-in, loader-stands, nothing-stands}
 use Rattle.plan.proofs.Symbols.{symbol-in}
 use Rattle.word.proofs.Test.{found}
 use Rattle.history.specs.declared.Followed.the-variants as followed
@@ -47,29 +45,25 @@ enum-told-3 : tie.Need-enum-told-3
 enum-told-3 c = search needs
 
 returns : tie.Need-returns
-unfolding followedShift
 returns c =
     let a = c .before .before .before .before .before .before .before .before .before .before .before .before .args in
-    loader-stands (a .file .now) (a .l) _ _ _ _ _ _ followed.Text (c .before .before .before .before .before .before .before .before .before .before .before .before .pre .0 .1) (found (c .enum-told .given .1) (c .before .before .followed-at .ensures)) refl
+    λ p q f t h. loader-stands (a .file .now) (a .l) _ p q _ _ followed.Text (c .before .before .before .before .before .before .before .before .before .before .before .before .pre .0 .1) (c .before .before .before .before .before .before .before .before .before .before .before .before .pre .0 .2) (found (c .enum-told .given .1) (c .before .before .followed-at .ensures)) (h .text)
 
 returns-2 : tie.Need-returns-2
-unfolding followedShift
 returns-2 c =
     let a = c .before .before .before .before .before .before .before .before .before .before .before .before .args in
-    loader-stands (a .file .now) (a .l) _ _ _ _ _ _ followed.Data (c .before .before .before .before .before .before .before .before .before .before .before .before .pre .0 .1) (found (c .enum-told2 .given .1) (c .before .before .followed-at .ensures)) refl
+    λ p q f t h. loader-stands (a .file .now) (a .l) _ p q _ _ followed.Data (c .before .before .before .before .before .before .before .before .before .before .before .before .pre .0 .1) (c .before .before .before .before .before .before .before .before .before .before .before .before .pre .0 .2) (found (c .enum-told2 .given .1) (c .before .before .followed-at .ensures)) (h .dat)
 
 returns-3 : tie.Need-returns-3
-unfolding followedShift
 returns-3 c =
     let a = c .before .before .before .before .before .before .before .before .before .before .before .before .before .before .args in
-    loader-stands (a .file .now) (a .l) _ _ _ _ _ _ _ (c .before .before .before .before .before .before .before .before .before .before .before .before .before .before .pre .0 .1) (found (c .before .before .f .given .1) (c .before .before .before .before .followed-at .ensures))
-    (c .import-shift .ensures)
+    λ p q f t h. loader-stands (a .file .now) (a .l) _ p q _ _ _ (c .before .before .before .before .before .before .before .before .before .before .before .before .before .before .pre .0 .1) (c .before .before .before .before .before .before .before .before .before .before .before .before .before .before .pre .0 .2) (found (c .before .before .f .given .1) (c .before .before .before .before .followed-at .ensures))
+    (c .import-shift .ensures _ p q f t)
 
 returns-4 : tie.Need-returns-4
-unfolding followedShift
 returns-4 c =
     let a = c .before .before .before .before .before .before .before .before .before .before .before .before .args in
-    loader-stands (a .file .now) (a .l) _ _ _ _ _ _ followed.Nothing (c .before .before .before .before .before .before .before .before .before .before .before .before .pre .0 .1) (found (c .enum-told3 .given .1) (c .before .before .followed-at .ensures)) refl
+    λ p q f t h. loader-stands (a .file .now) (a .l) _ p q _ _ followed.Nothing (c .before .before .before .before .before .before .before .before .before .before .before .before .pre .0 .1) (c .before .before .before .before .before .before .before .before .before .before .before .before .pre .0 .2) (found (c .enum-told3 .given .1) (c .before .before .followed-at .ensures)) (nothing-stands _ _ p q)
 
 pub loader-shift-spec : {M : Type 1} → statement M
 loader-shift-spec =

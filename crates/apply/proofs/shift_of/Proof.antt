@@ -19,13 +19,13 @@ loader-shift-requires c κs =
     ((h .0 .0, omega (arith, c .match .rest), h .0 .1), (h .1 .0, h .1 .1))
 
 returns : tie.Need-returns
-returns c = rw (c .match .keys1) (implicit-stands _ _ _ _ _ _ 0 (omega arith))
+returns c = rw (c .match .keys1) (λ p q f t h. implicit-stands _ _ _ p q 0 (omega arith) h)
 
 returns-2 : tie.Need-returns-2
-returns-2 c = rw (c .match .keys2) (implicit-stands _ _ _ _ _ _ 1 (omega arith))
+returns-2 c = rw (c .match .keys2) (λ p q f t h. implicit-stands _ _ _ p q 1 (omega arith) h)
 
 returns-3 : tie.Need-returns-3
-returns-3 c = rw (c .match .keys3) (implicit-stands _ _ _ _ _ _ 2 (omega arith))
+returns-3 c = rw (c .match .keys3) (λ p q f t h. implicit-stands _ _ _ p q 2 (omega arith) h)
 
 returns-4 : tie.Need-returns-4
 returns-4 c = c .loader-shift .ensures

@@ -1,4 +1,5 @@
 use borrow.Author.Needs.{needs}
+use native.Mathlib.Omega.{arith}
 use Rattle.apply.proofs.Stands.{difference-stands}
 use Rattle.displacement.proofs.differences.Statement.{statement}
 use Rattle.displacement.proofs.differences.Tie as tie
@@ -11,7 +12,7 @@ wrapping-sub-u64-requires-2 c κs = search needs
 
 returns : tie.Need-returns
 returns c =
-    record { text = difference-stands _ _ _ (c .before .wrapping-sub-u64 .ensures); dat = difference-stands _ _ _ (c .wrapping-sub-u642 .ensures); bss = difference-stands _ _ _ (c .wrapping-sub-u642 .ensures) }
+    record { text = difference-stands _ _ _ (omega arith) (c .before .wrapping-sub-u64 .ensures); dat = difference-stands _ _ _ (omega arith) (c .wrapping-sub-u642 .ensures); bss = difference-stands _ _ _ (omega arith) (c .wrapping-sub-u642 .ensures) }
 
 pub differences-spec : {M : Type 1} → statement M
 differences-spec =

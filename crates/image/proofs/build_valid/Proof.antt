@@ -52,9 +52,7 @@ returns-2 c =
     (c .before .before .before .before .before .before .before .before .before .before .before .before .before .before .before .before .before .before .check-build .ensures)
     (c .before .before .before .before .before .before .before .before .before .before .before .before .before .before .before .before .enum-told .given .1))
     (c .reach .ensures _ _)
-    (build-leaves _ _
-    (c .before .before .before .before .before .before .before .before .before .before .before .before .before .before .before .before .before .before .before .before .before .before .before .pre)
-    _ _ _ _ _
+    (build-leaves _ _ _ _ _ _ _
     (c .before .before .before .before .before .before .before .before .displacements .ensures)
     (c .before .before .before .before .before .before .before .before .before .before .before .before .before .fill-raw .ensures)
     (c .before .before .before .before .before .apply-all .ensures))

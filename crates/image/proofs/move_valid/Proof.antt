@@ -51,9 +51,7 @@ returns-2 c =
     (c .before .before .before .before .before .before .before .before .before .before .before .check-move .ensures)
     (c .before .before .before .before .before .before .before .before .before .enum-told .given .1))
     (c .reach .ensures _ _)
-    (move-leaves _ _
-    (c .before .before .before .before .before .before .before .before .before .before .before .before .before .before .before .before .before .pre)
-    _ _ _ _ _
+    (move-leaves _ _ _ _ _ _ _
     (c .before .before .before .before .before .before .before .before .differences .ensures)
     (c .before .before .before .before .before .apply-all .ensures))
 

@@ -7,10 +7,10 @@ import-range-requires : tie.Need-import-range-requires
 import-range-requires c κs = search needs
 
 part-of-requires : tie.Need-part-of-requires
-part-of-requires c κs = rw (c .import-range .ensures) (import-within _ _ _)
+part-of-requires c κs = rw (c .import-range .ensures .0) (import-within _ _ _)
 
 returns : tie.Need-returns
-returns c = rw (← c .before .import-range .ensures) (c .part-of .ensures)
+returns c = rw (← c .before .import-range .ensures .0) (c .part-of .ensures)
 
 pub import-path-spec : {M : Type 1} → statement M
 import-path-spec = tie.close (tie.spec import-range-requires part-of-requires returns)

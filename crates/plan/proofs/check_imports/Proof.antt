@@ -1,8 +1,9 @@
-use Prim.Native.Nat.{_+_, _-_, _≤_}
+use Prim.Native.Nat.{_-_, _≤_}
 use mathlib.Core.Path.{_∙_, _≡_, sym}
 use native.Mathlib.Omega.{arith}
 use Rattle.plan.proofs.Fit.{imports-stop}
-use Rattle.plan.specs.Import.{importAt}
+use Rattle.history.specs.Plan.{importCheck}
+use Rattle.plan.specs.Relocatable.{relocatableOf}
 use Rattle.refusal.proofs.Order.{first-end, first-start, first-turn}
 use Rattle.refusal.specs.Order.{firstOf}
 use Rattle.word.proofs.Test.{found}
@@ -11,7 +12,7 @@ use Rattle.plan.proofs.check_imports.Tie as tie
 
 abbrev Inv-loop : tie.InvT-loop
 Inv-loop file l last list count k₀ k =
-    (k ≤ l .tables .nsyms) × (firstOf (importAt file l (last + 1) list) 0 (l .tables .nsyms) ≡ firstOf (importAt file l (last + 1) list) k (l .tables .nsyms - k))
+    (k ≤ l .tables .nsyms) × (firstOf (importCheck (relocatableOf file l) list) 0 (l .tables .nsyms) ≡ firstOf (importCheck (relocatableOf file l) list) k (l .tables .nsyms - k))
 
 abbrev μ-loop : tie.MeasureT-loop
 μ-loop file l last list count k₀ k = l .tables .nsyms - k
@@ -19,20 +20,20 @@ abbrev μ-loop : tie.MeasureT-loop
 loop-holds : tie.Need-loop-holds Inv-loop μ-loop
 loop-holds c =
     let a = c .before .before .before .args in
-    (omega arith, first-start (importAt (a .file .now) (a .l) (a .last + 1) (a .list .now)) _)
+    (omega arith, first-start (importCheck (relocatableOf (a .file .now) (a .l)) (a .list .now)) _)
 
 refuses-import-requires : tie.Need-refuses-import-requires Inv-loop μ-loop
-refuses-import-requires c κs = (c .before .before .before .before .before .pre .0, c .before .before .before .before .before .pre .1, c .loop-test .taken)
+refuses-import-requires c κs = ((c .before .before .before .before .before .pre .0 .0, c .before .before .before .before .before .pre .0 .1, c .loop-test .taken), c .before .before .before .before .before .pre .1)
 
 add-t10 : tie.Need-add-t10 Inv-loop μ-loop
-add-t10 c = omega (arith, c .before .before .loop-test .taken, c .before .before .before .before .before .before .before .pre .0 .loader .tables .few)
+add-t10 c = omega (arith, c .before .before .loop-test .taken, c .before .before .before .before .before .before .before .pre .0 .0 .loader .tables .few)
 
 returns : tie.Need-returns Inv-loop μ-loop
 returns c =
-    imports-stop _ _ _ _ _ _ (c .before .before .loop-test .taken) (c .before .before .before .loop .inv .1) (found (c .before .refuses-import .ensures) (c .if1 .taken))
+    imports-stop _ (c .before .before .before .before .before .before .before .args .l) _ _ (c .before .before .loop-test .taken) (c .before .before .before .loop .inv .1) (found (c .before .refuses-import .ensures) (c .if1 .taken))
 
 add-k : tie.Need-add-k Inv-loop μ-loop
-add-k c = omega (arith, c .before .before .loop-test .taken, c .before .before .before .before .before .before .before .pre .0 .loader .tables .few)
+add-k c = omega (arith, c .before .before .loop-test .taken, c .before .before .before .before .before .before .before .pre .0 .0 .loader .tables .few)
 
 loop-less : tie.Need-loop-less Inv-loop μ-loop
 loop-less c = omega (arith, c .before .before .loop-test .taken)

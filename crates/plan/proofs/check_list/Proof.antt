@@ -3,10 +3,10 @@ use Rattle.plan.proofs.check_list.Statement.{statement}
 use Rattle.plan.proofs.check_list.Tie as tie
 
 returns : tie.Need-returns
-returns c = list-whole _ (c .before .before .before .args .l) _ (c .if1 .taken)
+returns c = list-whole _ _ (c .if1 .taken)
 
 returns-2 : tie.Need-returns-2
-returns-2 c = list-other _ (c .before .before .before .args .l) _ (c .if1 .left)
+returns-2 c = list-other _ _ (c .if1 .left)
 
 pub check-list-spec : {M : Type 1} → statement M
 check-list-spec = tie.close (tie.spec returns returns-2)

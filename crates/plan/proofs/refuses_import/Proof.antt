@@ -1,9 +1,9 @@
 use borrow.Author.Needs.{needs}
+use mathlib.Core.Path.{refl}
 use native.Mathlib.Omega.{arith}
 use Rattle.history.specs.Plan.{addressCheck}
-use Rattle.plan.proofs.Fit.{import-above, import-below}
+use Rattle.plan.proofs.Fit.{import-above, import-below, import-other}
 use Rattle.plan.proofs.Symbols.{symbol-in}
-use Rattle.plan.specs.Import.{importAt}
 use Rattle.word.proofs.Test.{found}
 use Rattle.plan.proofs.refuses_import.Statement.{statement}
 use Rattle.plan.proofs.refuses_import.Tie as tie
@@ -15,10 +15,10 @@ shared-slice-read-if1 : tie.Need-shared-slice-read-if1
 shared-slice-read-if1 c = search needs
 
 returns : tie.Need-returns
-returns c = import-below _ _ _ _ _ (omega (arith, c .if1 .taken))
+returns c = let a = c .before .before .before .before .args in import-below (a .file .now) (a .l) _ _ (c .before .before .before .before .pre .0 .2) (omega (arith, c .if1 .taken, c .before .before .before .before .pre .1))
 
 followed-at-requires : tie.Need-followed-at-requires
-followed-at-requires c κs = let a = c .before .before .before .before .before .before .before .before .before .before .args in symbol-in (a .file .now) (a .l) (a .k) (c .before .before .before .before .before .before .before .before .before .before .pre .0) (c .before .before .before .before .before .before .before .before .before .before .pre .2)
+followed-at-requires c κs = let a = c .before .before .before .before .before .before .before .before .before .before .args in symbol-in (a .file .now) (a .l) (a .k) (c .before .before .before .before .before .before .before .before .before .before .pre .0 .0) (c .before .before .before .before .before .before .before .before .before .before .pre .0 .2)
 
 enum-told : tie.Need-enum-told
 enum-told c = search needs
@@ -33,20 +33,20 @@ enum-told-4 : tie.Need-enum-told-4
 enum-told-4 c = search needs
 
 returns-2 : tie.Need-returns-2
-unfolding importAt addressCheck
-returns-2 c = rw (found (c .before .before .followed-at .ensures) (c .enum-told .given .1))
+unfolding addressCheck
+returns-2 c = import-other _ (c .before .before .before .before .before .before .before .before .before .before .before .before .before .args .l) _ _ (c .before .before .before .before .before .before .before .before .before .before .before .before .before .pre .0 .2) _ (found (c .before .before .followed-at .ensures) (c .enum-told .given .1)) refl
 
 returns-3 : tie.Need-returns-3
-unfolding importAt addressCheck
-returns-3 c = rw (found (c .before .before .followed-at .ensures) (c .enum-told2 .given .1))
+unfolding addressCheck
+returns-3 c = import-other _ (c .before .before .before .before .before .before .before .before .before .before .before .before .before .args .l) _ _ (c .before .before .before .before .before .before .before .before .before .before .before .before .before .pre .0 .2) _ (found (c .before .before .followed-at .ensures) (c .enum-told2 .given .1)) refl
 
 returns-4 : tie.Need-returns-4
 returns-4 c =
-    import-above _ _ _ _ _ _ _ (found (c .before .before .followed-at .ensures) (c .enum-told3 .given .1)) (omega (arith, c .before .before .before .before .before .before .before .before .before .if1 .left))
+    import-above _ (c .before .before .before .before .before .before .before .before .before .before .before .before .before .args .l) _ _ (c .before .before .before .before .before .before .before .before .before .before .before .before .before .pre .0 .2) _ _ (found (c .before .before .followed-at .ensures) (c .enum-told3 .given .1)) (omega (arith, c .before .before .before .before .before .before .before .before .before .if1 .left, c .before .before .before .before .before .before .before .before .before .before .before .before .before .pre .1))
 
 returns-5 : tie.Need-returns-5
-unfolding importAt addressCheck
-returns-5 c = rw (found (c .before .before .followed-at .ensures) (c .enum-told4 .given .1))
+unfolding addressCheck
+returns-5 c = import-other _ (c .before .before .before .before .before .before .before .before .before .before .before .before .before .args .l) _ _ (c .before .before .before .before .before .before .before .before .before .before .before .before .before .pre .0 .2) _ (found (c .before .before .followed-at .ensures) (c .enum-told4 .given .1)) refl
 
 pub refuses-import-spec : {M : Type 1} → statement M
 refuses-import-spec =

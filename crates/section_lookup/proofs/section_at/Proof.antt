@@ -3,8 +3,9 @@ use native.Mathlib.Omega.{arith}
 use borrow.Author.Needs.{needs}
 use Rattle.refusal.specs.declared.Verdict.the-variants.{Accepted}
 use Rattle.word.proofs.Test.{found}
-use Rattle.section_lookup.proofs.Lookup.{looked-up, known, inside, section-refused, section-found, section-reported}
-use Rattle.section_lookup.specs.Lookup.{lookupCheck}
+use Rattle.section_lookup.proofs.Lookup.{looked-up, known, inside, section-refused, section-found}
+use Rattle.refusal.proofs.Report.{reported}
+use Rattle.section_lookup.specs.Lookup.{lookupCheck, reportOfSection}
 use Rattle.section_lookup.proofs.section_at.Statement.{statement}
 use Rattle.section_lookup.proofs.section_at.Tie as tie
 
@@ -45,14 +46,14 @@ returns : tie.Need-returns
 returns c =
     let a = c .before .before .before .before .before .before .before .args in
     let v = looked-up (a .file .now) (a .n) (c .before .before .before .before .before .«open» .ensures .0) (c .before .before .before .check-number .ensures) in
-    section-reported (a .file .now) (a .n) (section-refused (a .file .now) (a .n) _ v (c .before .v .given .1))
+    reported reportOfSection (section-refused (a .file .now) (a .n) _ v (c .before .v .given .1))
 
 returns-2 : tie.Need-returns-2
 returns-2 c =
     let a = c .before .before .before .before .before .before .before .before .args in
     let o = c .before .before .before .before .before .before .«open» .ensures .0 in
     let v = looked-up (a .file .now) (a .n) o (c .before .before .before .before .check-number .ensures) in
-    section-reported (a .file .now) (a .n) (section-found (a .file .now) (a .n) o v (c .before .before .enum-told .given .1))
+    reported reportOfSection (section-found (a .file .now) (a .n) o v (c .before .before .enum-told .given .1))
 
 pub section-at-spec : {M : Type 1} → statement M
 section-at-spec =

@@ -7,10 +7,10 @@ section-name-range-requires : tie.Need-section-name-range-requires
 section-name-range-requires c κs = search needs
 
 part-of-requires : tie.Need-part-of-requires
-part-of-requires c κs = rw (c .section-name-range .ensures) (name-within _ _)
+part-of-requires c κs = rw (c .section-name-range .ensures .0) (name-within _ _)
 
 returns : tie.Need-returns
-returns c = rw (← c .before .section-name-range .ensures) (c .part-of .ensures)
+returns c = rw (← c .before .section-name-range .ensures .0) (c .part-of .ensures)
 
 pub section-name-spec : {M : Type 1} → statement M
 section-name-spec = tie.close (tie.spec section-name-range-requires part-of-requires returns)

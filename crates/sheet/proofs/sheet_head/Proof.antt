@@ -1,6 +1,8 @@
 use borrow.Author.Needs.{needs}
 use native.Mathlib.Omega.{arith}
-use Rattle.sheet.proofs.Answers.{head-found, head-refused, reported, whole-length}
+use Rattle.sheet.proofs.Answers.{head-found, head-refused, whole-length}
+use Rattle.sheet.specs.Sheet.{reportOfSheet}
+use Rattle.refusal.proofs.Report.{reported}
 use Rattle.word.proofs.Test.{found}
 use Rattle.sheet.proofs.sheet_head.Statement.{statement}
 use Rattle.sheet.proofs.sheet_head.Tie as tie
@@ -20,12 +22,12 @@ enum-known-v c = search needs
 returns : tie.Need-returns
 returns c =
     let a = c .before .before .before .before .before .args in
-    reported _ _ (head-found 2 (a .sheet .now) (c .before .before .before .check-sheet .ensures) (c .before .enum-told .given .1) (c .read-head .ensures))
+    reported reportOfSheet (head-found 2 (a .sheet .now) (c .before .before .before .check-sheet .ensures) (c .before .enum-told .given .1) (c .read-head .ensures))
 
 returns-2 : tie.Need-returns-2
 returns-2 c =
     let a = c .before .before .before .before .before .args in
-    reported _ _ (head-refused 2 (a .sheet .now) (c .before .before .before .check-sheet .ensures) (c .before .v .given .1))
+    reported reportOfSheet (head-refused 2 (a .sheet .now) (c .before .before .before .check-sheet .ensures) (c .before .v .given .1))
 
 pub sheet-head-spec : {M : Type 1} → statement M
 sheet-head-spec =

@@ -4,6 +4,8 @@ use borrow.Author.Needs.{needs}
 use Rattle.symbol.specs.Entry.{TablesInside}
 use Rattle.symbol_lookup.proofs.Lookup.{symbol-known, name-found, name-refused}
 use Rattle.symbol.proofs.Checks.{entry-whole}
+use Rattle.refusal.specs.Part.{reportOfRange}
+use Rattle.refusal.proofs.Report.{reported}
 use Rattle.symbol_lookup.proofs.symbol_name_range.Statement.{statement}
 use Rattle.symbol_lookup.proofs.symbol_name_range.Tie as tie
 
@@ -39,10 +41,10 @@ name-range-requires : tie.Need-name-range-requires
 name-range-requires c κs = known (c .before .before .before .before)
 
 returns : tie.Need-returns
-returns c = let a = c .before .before .before .before .before .args in name-refused (a .file .now) (a .i) (c .before .before .before .symbol-at .ensures .0) (c .before .a .given .1)
+returns c = let a = c .before .before .before .before .before .args in reported reportOfRange (name-refused (a .file .now) (a .i) (c .before .before .before .symbol-at .ensures .0) (c .before .a .given .1))
 
 returns-2 : tie.Need-returns-2
-returns-2 c = let a = c .before .before .before .before .before .before .before .before .before .before .before .before .args in rw (c .name-range .ensures, c .before .read-name-field .ensures) (name-found (a .file .now) (a .i) (c .before .before .before .before .before .before .before .before .before .before .symbol-at .ensures .0) (c .before .before .before .before .before .before .before .before .enum-told .given .1) (c .before .before .before .before .before .before .before .«open» .ensures .0) (c .before .before .before .before .before .tables-of .ensures))
+returns-2 c = let a = c .before .before .before .before .before .before .before .before .before .before .before .before .args in reported reportOfRange (rw (c .name-range .ensures, c .before .read-name-field .ensures) (name-found (a .file .now) (a .i) (c .before .before .before .before .before .before .before .before .before .before .symbol-at .ensures .0) (c .before .before .before .before .before .before .before .before .enum-told .given .1) (c .before .before .before .before .before .before .before .«open» .ensures .0) (c .before .before .before .before .before .tables-of .ensures)))
 
 pub symbol-name-range-spec : {M : Type 1} → statement M
 symbol-name-range-spec =

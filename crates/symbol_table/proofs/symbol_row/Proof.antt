@@ -32,9 +32,9 @@ report-csect-requires c κs = search needs
 
 returns : tie.Need-returns
 unfolding symbolRow
-returns c = let s = c .before .before .before .before .before .before .before .before .before .before in
+returns c = let s = c .before .before .before .before .before .before .before .before .before .before .before in
     let a = s .args in
-    rw (c .report-csect .ensures, c .before .before .report-symbol .ensures, symbol-is (a .file .now) (a .t) (s .pre .0) (a .i) (s .pre .2), csect-is (a .file .now) (a .t) (s .pre .0) (a .i) (c .before .csect-in .ensures), span-is (a .file .now) (a .t) (s .pre .0) (a .i) (c .before .before .before .before .before .read-name-field .ensures) (c .before .before .before .before .name-span .ensures)) refl
+    rw (c .before .report-csect .ensures, c .before .before .before .report-symbol .ensures, symbol-is (a .file .now) (a .t) (s .pre .0) (a .i) (s .pre .2), csect-is (a .file .now) (a .t) (s .pre .0) (a .i) (c .before .before .csect-in .ensures), span-is (a .file .now) (a .t) (s .pre .0) (a .i) (c .before .before .before .before .before .before .read-name-field .ensures) (c .before .before .before .before .before .name-span .ensures)) refl
 
 pub symbol-row-spec : {M : Type 1} → statement M
 symbol-row-spec =

@@ -1,6 +1,5 @@
 use borrow.Author.Needs.{needs}
-use mathlib.Core.Path.{_∙_, ap}
-use Rattle.report.specs.Report.{cLoaderSymbol}
+use mathlib.Core.Path.{_∙_}
 use Rattle.xcoff_c.proofs.xcoff_loader_symbol.Statement.{statement}
 use Rattle.xcoff_c.proofs.xcoff_loader_symbol.Tie as tie
 
@@ -11,7 +10,7 @@ report-loader-symbol-requires : tie.Need-report-loader-symbol-requires
 report-loader-symbol-requires c κs = search needs
 
 returns : tie.Need-returns
-returns c = c .report-loader-symbol .ensures ∙ ap cLoaderSymbol (c .before .loader-symbol .ensures .1)
+returns c = c .report-loader-symbol .ensures ∙ c .before .loader-symbol .ensures .1
 
 pub xcoff-loader-symbol-spec : {M : Type 1} → statement M
 xcoff-loader-symbol-spec =

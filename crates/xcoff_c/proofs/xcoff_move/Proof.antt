@@ -1,6 +1,5 @@
 use borrow.Author.Needs.{needs}
-use mathlib.Core.Path.{_∙_, ap}
-use Rattle.report_image.specs.Report.{cCall}
+use mathlib.Core.Path.{_∙_}
 use Rattle.xcoff_c.proofs.xcoff_move.Statement.{statement}
 use Rattle.xcoff_c.proofs.xcoff_move.Tie as tie
 
@@ -17,7 +16,7 @@ same-length-2 : tie.Need-same-length-2
 same-length-2 c = search needs
 
 returns : tie.Need-returns
-returns c = (c .report-call .ensures ∙ ap cCall (c .before .before .before .before .before .move-images .ensures .1 .0), c .before .before .before .before .before .move-images .ensures .1 .1)
+returns c = (c .report-call .ensures ∙ c .before .before .before .before .before .move-images .ensures .1 .0, c .before .before .before .before .before .move-images .ensures .1 .1)
 
 pub xcoff-move-spec : {M : Type 1} → statement M
 xcoff-move-spec =

@@ -1,6 +1,5 @@
 use borrow.Author.Needs.{needs}
-use mathlib.Core.Path.{_∙_, ap}
-use Rattle.report.specs.Report.{cOpen}
+use mathlib.Core.Path.{_∙_}
 use Rattle.xcoff_c.proofs.xcoff_open.Statement.{statement}
 use Rattle.xcoff_c.proofs.xcoff_open.Tie as tie
 
@@ -11,7 +10,7 @@ report-open-requires : tie.Need-report-open-requires
 report-open-requires c κs = search needs
 
 returns : tie.Need-returns
-returns c = c .report-open .ensures ∙ ap cOpen (c .before .«open» .ensures .1)
+returns c = c .report-open .ensures ∙ c .before .«open» .ensures .1
 
 pub xcoff-open-spec : {M : Type 1} → statement M
 xcoff-open-spec = tie.close (tie.spec open-requires report-open-requires returns)

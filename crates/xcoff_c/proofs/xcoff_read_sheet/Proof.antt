@@ -1,6 +1,5 @@
 use borrow.Author.Needs.{needs}
-use mathlib.Core.Path.{_∙_, ap}
-use Rattle.report_image.specs.Report.{cSheet}
+use mathlib.Core.Path.{_∙_}
 use Rattle.xcoff_c.proofs.xcoff_read_sheet.Statement.{statement}
 use Rattle.xcoff_c.proofs.xcoff_read_sheet.Tie as tie
 
@@ -14,7 +13,7 @@ same-length : tie.Need-same-length
 same-length c = search needs
 
 returns : tie.Need-returns
-returns c = (c .report-sheet .ensures ∙ ap cSheet (c .before .before .before .read-sheet .ensures .1 .0), c .before .before .before .read-sheet .ensures .1 .1)
+returns c = (c .report-sheet .ensures ∙ c .before .before .before .read-sheet .ensures .1 .0, c .before .before .before .read-sheet .ensures .1 .1)
 
 pub xcoff-read-sheet-spec : {M : Type 1} → statement M
 xcoff-read-sheet-spec =

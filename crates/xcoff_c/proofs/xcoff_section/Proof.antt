@@ -1,6 +1,5 @@
 use borrow.Author.Needs.{needs}
-use mathlib.Core.Path.{_∙_, ap}
-use Rattle.report.specs.Report.{cSection}
+use mathlib.Core.Path.{_∙_}
 use Rattle.xcoff_c.proofs.xcoff_section.Statement.{statement}
 use Rattle.xcoff_c.proofs.xcoff_section.Tie as tie
 
@@ -11,7 +10,7 @@ report-section-requires : tie.Need-report-section-requires
 report-section-requires c κs = search needs
 
 returns : tie.Need-returns
-returns c = c .report-section .ensures ∙ ap cSection (c .before .section-at .ensures .1)
+returns c = c .report-section .ensures ∙ c .before .section-at .ensures .1
 
 pub xcoff-section-spec : {M : Type 1} → statement M
 xcoff-section-spec = tie.close (tie.spec section-at-requires report-section-requires returns)

@@ -1,6 +1,5 @@
 use borrow.Author.Needs.{needs}
-use mathlib.Core.Path.{_∙_, ap}
-use Rattle.report.specs.Report.{cRange}
+use mathlib.Core.Path.{_∙_}
 use Rattle.xcoff_c.proofs.xcoff_symbol_name.Statement.{statement}
 use Rattle.xcoff_c.proofs.xcoff_symbol_name.Tie as tie
 
@@ -11,7 +10,7 @@ report-range-requires : tie.Need-report-range-requires
 report-range-requires c κs = search needs
 
 returns : tie.Need-returns
-returns c = c .report-range .ensures ∙ ap cRange (c .before .symbol-name-range .ensures)
+returns c = c .report-range .ensures ∙ c .before .symbol-name-range .ensures .1
 
 pub xcoff-symbol-name-spec : {M : Type 1} → statement M
 xcoff-symbol-name-spec =

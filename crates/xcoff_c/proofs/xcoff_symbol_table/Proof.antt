@@ -1,6 +1,5 @@
 use borrow.Author.Needs.{needs}
-use mathlib.Core.Path.{_∙_, ap}
-use Rattle.report.specs.Report.{cWalk}
+use mathlib.Core.Path.{_∙_}
 use Rattle.xcoff_c.proofs.xcoff_symbol_table.Statement.{statement}
 use Rattle.xcoff_c.proofs.xcoff_symbol_table.Tie as tie
 
@@ -14,7 +13,7 @@ same-length : tie.Need-same-length
 same-length c = search needs
 
 returns : tie.Need-returns
-returns c = (c .report-walk .ensures ∙ ap cWalk (c .before .before .before .symbol-table .ensures .1 .0), c .before .before .before .symbol-table .ensures .1 .1)
+returns c = (c .report-walk .ensures ∙ c .before .before .before .symbol-table .ensures .1 .0, c .before .before .before .symbol-table .ensures .1 .1)
 
 pub xcoff-symbol-table-spec : {M : Type 1} → statement M
 xcoff-symbol-table-spec =

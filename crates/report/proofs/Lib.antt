@@ -1,3 +1,0 @@
--- Laws of the C answers.
-pub mod Number
-pub mod Inside

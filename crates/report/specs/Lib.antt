@@ -1,2 +1,0 @@
--- What the contracts of `report` and of the C interface cite.
-pub mod Report

@@ -1,2 +1,0 @@
--- What the contracts of `report_image` cite.
-pub mod Report

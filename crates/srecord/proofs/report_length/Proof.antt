@@ -1,0 +1,32 @@
+use borrow.Author.Needs.{needs}
+use Rattle.srecord.proofs.report_length.Statement.{statement}
+use Rattle.srecord.proofs.report_length.Tie as tie
+
+enum-known-a : tie.Need-enum-known-a
+enum-known-a c = search needs
+
+report-head-requires : tie.Need-report-head-requires
+report-head-requires c κs = search needs
+
+enum-known-a-2 : tie.Need-enum-known-a-2
+enum-known-a-2 c = search needs
+
+report-head-requires-2 : tie.Need-report-head-requires-2
+report-head-requires-2 c κs = search needs
+
+returns : tie.Need-returns
+returns c = rw (c .before .before .a .given .1, c .report-head .ensures)
+
+returns-2 : tie.Need-returns-2
+returns-2 c = rw (c .before .before .a2 .given .1, c .report-head2 .ensures)
+
+pub report-length-spec : {M : Type 1} → statement M
+report-length-spec =
+    tie.close
+    (tie.spec
+    enum-known-a
+    report-head-requires
+    enum-known-a-2
+    report-head-requires-2
+    returns
+    returns-2)
