@@ -5,7 +5,7 @@ ghost use lib.ListN.{length};
 ghost use Rattle.word.specs.Number.{bytesIn};
 ghost use Rattle.format.specs.Name.{nameField};
 ghost use Rattle.format.specs.Range.{textIn};
-ghost use Rattle.format.specs.Layout.{formatOf, headerLayout, sectionLayout, auxLayout, auxNumbers, symbolLayout, loaderLayout, relocationLayout, addressLimit, bitsOf};
+ghost use Rattle.format.specs.Layout.{formatOf, headerLayout, sectionLayout, auxLayout, auxNumbers, symbolLayout, shortName, loaderLayout, relocationLayout, addressLimit, bitsOf};
 use word::Field;
 
 // What is above a limit is refused.
@@ -76,10 +76,8 @@ pub struct SectionLayout {
     pub length: usize,
 }
 
-// A symbol table entry's numbers. XCOFF32 keeps a short name where its first word, `zeroes`, is not 0; in XCOFF64 that place is the value's.
+// A symbol table entry's numbers, and where an offset leads to its name.
 pub struct SymbolLayout {
-    pub name: Field,
-    pub zeroes: Field,
     pub offset: Field,
     pub value: Field,
     pub scnum: Field,
@@ -239,16 +237,12 @@ pub fn aux_numbers() -> AuxNumbers
 pub fn symbol_layout(f: Format) -> SymbolLayout
     ensures { λ r. ⌜ r ≡ symbolLayout f ⌝ }
 {
-    let name = word::eight(0);
-    let zeroes = word::four(0);
     let scnum = word::two(12);
     let ntype = word::two(14);
     let sclass = word::one(16);
     let numaux = word::one(17);
     match f {
         Format::Xcoff32 => SymbolLayout {
-            name,
-            zeroes,
             offset: word::four(4),
             value: word::four(8),
             scnum,
@@ -257,8 +251,6 @@ pub fn symbol_layout(f: Format) -> SymbolLayout
             numaux,
         },
         Format::Xcoff64 => SymbolLayout {
-            name,
-            zeroes,
             offset: word::four(8),
             value: word::eight(0),
             scnum,
@@ -267,6 +259,13 @@ pub fn symbol_layout(f: Format) -> SymbolLayout
             numaux,
         },
     }
+}
+
+// XCOFF32 keeps a short name in an entry's first 8 bytes, where their first word is not 0.
+pub fn short_name() -> Field
+    ensures { λ r. ⌜ r ≡ shortName ⌝ }
+{
+    word::eight(0)
 }
 
 pub fn loader_layout(f: Format) -> LoaderLayout
@@ -314,8 +313,7 @@ pub fn read_name_field(file: &[u8], f: Format, base: usize) -> NameField
     let offset = l.offset;
     match f {
         Format::Xcoff32 => {
-            let zeroes = l.zeroes;
-            if word::read_field(file, base, zeroes) == 0 {
+            if word::read_field(file, base, word::four(0)) == 0 {
                 return NameField::Offset(word::read_field(file, base, offset));
             }
             NameField::Short

@@ -15,18 +15,17 @@ use Rattle.word.proofs.Zero.{zero-within}
 use Rattle.word.proofs.Test.{either}
 use Rattle.format.specs.declared.FileRange.{FileRange}
 use Rattle.format.specs.declared.SymbolIndex.{SymbolIndex}
-use Rattle.format.specs.Layout.{symbolLayout}
+use Rattle.format.specs.Layout.{shortName}
 use Rattle.format.specs.Range.{range, bytesOf, textIn}
-use Rattle.format.proofs.Layouts.{symbol-inside}
 use Rattle.format.proofs.Ranges.{text-inside}
 use Rattle.refusal.specs.declared.RangeAnswer.{RangeAnswer}
 use Rattle.refusal.specs.Part.{rangeBytes, Within}
 use Rattle.symbol.specs.declared.Tables.{Tables}
 use Rattle.format.specs.declared.NameField.{NameField}
 use Rattle.format.specs.declared.NameField.the-variants.{Short, Offset}
-use Rattle.symbol.specs.Entry.{TablesInside, entryStart}
-use Rattle.symbol.specs.Name.{stringIn, nameIn}
-use Rattle.symbol.proofs.Checks.{entry-whole}
+use Rattle.symbol.specs.Entry.{OpenTables, entryStart}
+use Rattle.symbol.specs.Name.{stringIn, nameBy}
+use Rattle.symbol.proofs.Opened.{tables-inside, entry-whole}
 
 -- ---- parts of the file
 
@@ -81,11 +80,9 @@ string-no-zero file strings o i =
     (λ _. either P (leb (strings .length - o) (firstZero (drop o (bytesOf file strings)))) (λ _ k h. absurd (omega arith))
     (λ _. rw (rest-of file strings o) (text-no-zero file (strings .length - o) (strings .start .0 + o))))
 
-pub field-no-zero : (file : List ℕ) (t : Tables) (i : SymbolIndex) (name : NameField) → NoZero (rangeBytes file (nameIn file t i name))
-unfolding nameIn textIn
-field-no-zero file t i Short =
-    let f = symbolLayout (t .format) .name in
-    text-no-zero file (bytesIn (f .width)) (entryStart t (i .0) + f .offset)
+pub field-no-zero : (file : List ℕ) (t : Tables) (i : SymbolIndex) (name : NameField) → NoZero (rangeBytes file (nameBy file t i name))
+unfolding nameBy textIn
+field-no-zero file t i Short = text-no-zero file (bytesIn (shortName .width)) (entryStart t (i .0) + shortName .offset)
 field-no-zero file t i (Offset o) =
     either (λ (a : RangeAnswer). NoZero (rangeBytes file a)) (eqb o 0) (λ _ k h. absurd (omega arith)) (λ _. string-no-zero file (t .strings) o i)
 
@@ -97,8 +94,8 @@ string-within file strings o i h =
     (λ _. either (Within (length file)) (leb (strings .length - o) n) (λ _. tt)
     (λ z. omega (arith, leb-false (strings .length - o) n z)))
 
-pub name-in-file : (file : List ℕ) (t : Tables) (i : SymbolIndex) (name : NameField) → TablesInside file t → i .0 < t .count → Within (length file) (nameIn file t i name)
-unfolding nameIn
-name-in-file file t i Short h k = text-inside _ _ file (symbol-inside (t .format) (entryStart t (i .0)) (length file) refl (entry-whole file t (i .0) h k) .name)
+pub name-in-file : (file : List ℕ) (t : Tables) (i : SymbolIndex) (name : NameField) → OpenTables file t → i .0 < t .count → Within (length file) (nameBy file t i name)
+unfolding nameBy
+name-in-file file t i Short h k = let whole = entry-whole file t (i .0) h k in text-inside shortName (entryStart t (i .0)) file (omega arith)
 name-in-file file t i (Offset o) h k =
-    either (Within (length file)) (eqb o 0) (λ _. omega arith) (λ _. string-within file (t .strings) o i (h .strings))
+    either (Within (length file)) (eqb o 0) (λ _. omega arith) (λ _. string-within file (t .strings) o i (tables-inside file t h .strings))

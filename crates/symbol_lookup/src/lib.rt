@@ -3,9 +3,10 @@ ghost use mathlib.Core.Path.{_≡_};
 ghost use Prim.Native.Nat.{_+_, _≤_, _<_};
 ghost use lib.ListN.{length};
 ghost use Rattle.refusal.specs.Part.{rangeBytes, reportOfRange};
-ghost use Rattle.symbol.specs.Entry.{TablesInside};
+ghost use Rattle.symbol.specs.Entry.{OpenTables};
 ghost use Rattle.symbol.specs.Name.{stringIn, nameIn};
-ghost use Rattle.symbol_lookup.specs.Lookup.{symbolAt, symbolNameAt, scnumOf, signed64, reportOfSymbol, symbolReport};
+ghost use Rattle.symbol.specs.Symbol.{scnumOf, symbolIn};
+ghost use Rattle.symbol_lookup.specs.Lookup.{symbolAt, nameBehind, symbolNameAt, signed64, reportOfSymbol, symbolReport};
 use format::FileOffset;
 use format::FileRange;
 use format::NameField;
@@ -15,6 +16,7 @@ use refusal::RangeAnswer;
 use refusal::Refusal;
 use refusal::Verdict;
 use symbol::SymbolAnswer;
+use symbol::SymbolEntry;
 use symbol::SymbolSection;
 use symbol::Tables;
 
@@ -40,10 +42,8 @@ pub fn symbol_at(file: &[u8], i: SymbolIndex) -> SymbolAnswer
         Verdict::Refused(x) => SymbolAnswer::Refused(x),
         Verdict::Accepted => {
             let y = o.summary;
-            let t = symbol::tables_of(y);
-            let strings = t.strings;
-            let ends = symbol::names_end(file, strings);
-            symbol::symbol_in(file, t, ends, i)
+            let t = symbol::tables_of(file, y);
+            symbol::symbol_in(file, t, i)
         }
     }
 }
@@ -72,19 +72,17 @@ fn string_range(file: &[u8], strings: FileRange, o: u64, i: SymbolIndex) -> Rang
     })
 }
 
-// Where the name of the entry at the index `i` lies.
-fn name_range(file: &[u8], t: Tables, i: SymbolIndex, name: NameField) -> RangeAnswer
-    requires { ⌜ TablesInside (now file) t × (i .0 < t .count) ⌝ }
-    ensures { λ r. ⌜ r ≡ nameIn (now (file .entry)) t i name ⌝ }
+// Where the name of the entry `e` at the index `i` lies.
+fn name_range(file: &[u8], t: Tables, i: SymbolIndex, e: SymbolEntry) -> RangeAnswer
+    requires { ⌜ OpenTables (now file) t × (i .0 < t .count) ⌝ }
+    ensures { λ r. ⌜ r ≡ nameIn (now (file .entry)) t i e ⌝ }
 {
+    let name = e.name;
     match name {
         NameField::Short => {
-            let f = t.format;
-            let l = format::symbol_layout(f);
-            let place = l.name;
             let start = t.start;
             let base = start.0 + i.0 * format::SYMBOL_LENGTH;
-            RangeAnswer::Found(format::text_in(file, base as usize, place))
+            RangeAnswer::Found(format::text_in(file, base as usize, format::short_name()))
         }
         NameField::Offset(o) => {
             if o == 0 {
@@ -99,23 +97,34 @@ fn name_range(file: &[u8], t: Tables, i: SymbolIndex, name: NameField) -> RangeA
     }
 }
 
+// Where the name of the symbol at an index of a file that is open lies.
+fn name_in(file: &[u8], t: Tables, i: SymbolIndex) -> RangeAnswer
+    requires { ⌜ OpenTables (now file) t ⌝ }
+    ensures { λ r. ⌜ r ≡ nameBehind (now (file .entry)) t i (symbolIn (now (file .entry)) t i) ⌝ }
+{
+    let a = symbol::symbol_in(file, t, i);
+    match a {
+        SymbolAnswer::Refused(x) => RangeAnswer::Refused(x),
+        SymbolAnswer::Found(_) => {
+            let e = symbol::entry_in(file, t, i);
+            name_range(file, t, i, e)
+        }
+    }
+}
+
 // Where the name of the symbol at an index lies; the refusals are those of `symbol_at`.
 pub fn symbol_name_range(file: &[u8], i: SymbolIndex) -> RangeAnswer
     ensures cause { λ r. ⌜ r ≡ symbolNameAt (now (file .entry)) i ⌝ }
     ensures report { λ r. ⌜ reportOfRange r ≡ reportOfRange (symbolNameAt (now (file .entry)) i) ⌝ }
 {
-    let a = symbol_at(file, i);
-    match a {
-        SymbolAnswer::Refused(x) => RangeAnswer::Refused(x),
-        SymbolAnswer::Found(_) => {
-            let o = header::open(file);
+    let o = header::open(file);
+    let v = o.verdict;
+    match v {
+        Verdict::Refused(x) => RangeAnswer::Refused(x),
+        Verdict::Accepted => {
             let y = o.summary;
-            let t = symbol::tables_of(y);
-            let f = t.format;
-            let start = t.start;
-            let base = start.0 + i.0 * format::SYMBOL_LENGTH;
-            let name = format::read_name_field(file, f, base as usize);
-            name_range(file, t, i, name)
+            let t = symbol::tables_of(file, y);
+            name_in(file, t, i)
         }
     }
 }

@@ -1,8 +1,6 @@
 // The walk over the symbol table.
 ghost use mathlib.Core.Path.{_≡_};
-ghost use Rattle.format.specs.Range.{bytesOf};
-ghost use Rattle.word.specs.Zero.{ZeroEnd};
-ghost use Rattle.symbol.specs.Entry.{TablesInside};
+ghost use Rattle.symbol.specs.Entry.{OpenTables};
 ghost use Rattle.walk.specs.Walk.{walkIn, walkOf, reportOfWalk, walkReport};
 use format::SymbolIndex;
 use refusal::Head;
@@ -33,15 +31,15 @@ pub struct WalkReport {
 }
 
 // The walk over the tables of an opened file.
-pub fn walk_tables(file: &[u8], t: Tables, ends: u64) -> WalkEnd
-    requires { ⌜ TablesInside (now file) t × ZeroEnd (bytesOf (now file) (t .strings)) ends ⌝ }
+pub fn walk_tables(file: &[u8], t: Tables) -> WalkEnd
+    requires { ⌜ OpenTables (now file) t ⌝ }
     ensures { λ r. ⌜ r ≡ walkIn (now (file .entry)) t ⌝ }
 {
     let count = t.count;
     let mut i: u64 = 0;
     let mut visited: u64 = 0;
     while i < count {
-        let a = symbol::symbol_in(file, t, ends, SymbolIndex(i));
+        let a = symbol::symbol_in(file, t, SymbolIndex(i));
         match a {
             SymbolAnswer::Refused(x) => {
                 return WalkEnd {
@@ -74,10 +72,8 @@ pub fn walk(file: &[u8]) -> WalkAnswer
         Verdict::Refused(x) => WalkAnswer::Refused(x),
         Verdict::Accepted => {
             let y = o.summary;
-            let t = symbol::tables_of(y);
-            let strings = t.strings;
-            let ends = symbol::names_end(file, strings);
-            WalkAnswer::Ended(walk_tables(file, t, ends))
+            let t = symbol::tables_of(file, y);
+            WalkAnswer::Ended(walk_tables(file, t))
         }
     }
 }

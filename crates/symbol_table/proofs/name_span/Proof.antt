@@ -1,9 +1,9 @@
+use Rattle.word.specs.declared.Field.{Field}
 use borrow.Author.Tests.{eq-eqb, ne-eqb}
-use mathlib.Core.Path.{refl}
+use mathlib.Core.Path.{refl, ap}
 use native.Mathlib.Omega.{arith}
-use Rattle.format.proofs.Layouts.{symbol-inside}
-use Rattle.symbol.proofs.Checks.{entry-whole}
-use Rattle.symbol_table.specs.Row.{nameSpan}
+use Rattle.symbol.proofs.Opened.{tables-inside, entry-whole}
+use Rattle.symbol_table.specs.Row.{spanBy}
 use Rattle.symbol_table.proofs.Names.{offset-below}
 use borrow.Author.Needs.{needs}
 use Rattle.symbol_table.proofs.name_span.Statement.{statement}
@@ -12,17 +12,17 @@ use Rattle.symbol_table.proofs.name_span.Tie as tie
 enum-told : tie.Need-enum-told
 enum-told c = search needs
 
-symbol-layout-requires : tie.Need-symbol-layout-requires
-symbol-layout-requires c κs = search needs
+short-name-requires : tie.Need-short-name-requires
+short-name-requires c κs = search needs
 
 mul-base : tie.Need-mul-base
-mul-base c = search needs
+mul-base c = let s = c .before .before .before .before .before .before in omega (arith, tables-inside (s .args .file .now) (s .args .t) (s .pre .0))
 
 add-base : tie.Need-add-base
-add-base c = search needs
+add-base c = let s = c .before .before .before .before .before .before .before in omega (arith, tables-inside (s .args .file .now) (s .args .t) (s .pre .0))
 
-add-t16 : tie.Need-add-t16
-add-t16 c = let s = c .before .before .before .before .before .before .before .before in let a = s .args in omega (arith, s .pre .0 .small, symbol-inside (a .t .format) _ _ (c .before .before .before .before .symbol-layout .ensures) (entry-whole (a .file .now) (a .t) (a .i .0) (s .pre .0) (s .pre .1)) .name)
+add-first : tie.Need-add-first
+add-first c = let s = c .before .before .before .before .before .before .before in let a = s .args in omega (arith, tables-inside (a .file .now) (a .t) (s .pre .0), entry-whole (a .file .now) (a .t) (a .i .0) (s .pre .0) (s .pre .1), ap (λ (f : Field). f .offset) (c .before .before .before .short-name .ensures))
 
 bytes-in-requires : tie.Need-bytes-in-requires
 bytes-in-requires c κs = search needs
@@ -31,21 +31,21 @@ enum-known-name : tie.Need-enum-known-name
 enum-known-name c = search needs
 
 returns : tie.Need-returns
-unfolding nameSpan
+unfolding spanBy
 returns c = rw (c .before .before .name .given .1, eq-eqb _ 0 (c .if1 .taken)) refl
 
-add-t22 : tie.Need-add-t22
-add-t22 c = let s = c .before .before .before .before .before .before .before .before in let a = s .args in omega (arith, s .pre .0 .small, s .pre .0 .strings, offset-below (a .file .now) (a .t) (a .i) _ (rw (c .before .before .before .before .before .name .given .1) at (s .pre .2)) (c .before .before .before .if1 .left))
+add-at : tie.Need-add-at
+add-at c = let s = c .before .before .before .before .before .before .before .before in let a = s .args in let h = tables-inside (a .file .now) (a .t) (s .pre .0) in omega (arith, h .small, h .strings, offset-below (a .file .now) (a .t) (a .i) _ (rw (c .before .before .before .before .before .name .given .1) at (s .pre .2)) (c .before .before .before .if1 .left))
 
-sub-t24 : tie.Need-sub-t24
-sub-t24 c = let s = c .before .before .before .before .before .before .before .before .before in let a = s .args in omega (arith, offset-below (a .file .now) (a .t) (a .i) _ (rw (c .before .before .before .before .before .before .name .given .1) at (s .pre .2)) (c .before .before .before .before .if1 .left))
+sub-room : tie.Need-sub-room
+sub-room c = let s = c .before .before .before .before .before .before .before .before .before in let a = s .args in omega (arith, offset-below (a .file .now) (a .t) (a .i) _ (rw (c .before .before .before .before .before .before .name .given .1) at (s .pre .2)) (c .before .before .before .before .if1 .left))
 
 returns-2 : tie.Need-returns-2
-unfolding nameSpan
-returns-2 c = rw (c .before .before .before .before .before .before .enum-told .given .1, c .bytes-in .ensures, c .before .before .before .before .before .symbol-layout .ensures) refl
+unfolding spanBy
+returns-2 c = rw (c .before .before .before .before .before .enum-told .given .1, c .bytes-in .ensures, c .before .before .before .before .short-name .ensures) refl
 
 returns-3 : tie.Need-returns-3
-unfolding nameSpan
+unfolding spanBy
 returns-3 c = rw (c .before .before .before .before .before .before .name .given .1, ne-eqb _ 0 (c .before .before .before .before .if1 .left)) refl
 
 pub name-span-spec : {M : Type 1} → statement M
@@ -53,14 +53,14 @@ name-span-spec =
     tie.close
     (tie.spec
     enum-told
-    symbol-layout-requires
+    short-name-requires
     mul-base
     add-base
-    add-t16
+    add-first
     bytes-in-requires
     enum-known-name
     returns
-    add-t22
-    sub-t24
+    add-at
+    sub-room
     returns-2
     returns-3)

@@ -4,16 +4,16 @@ use native.Mathlib.Omega.{arith}
 use Prim.Native.Nat.{_+_, _≤_, _-_}
 use Rattle.walk.proofs.Steps.{walk-start, walk-turn, walk-stop, walk-end}
 use Rattle.symbol.proofs.Checks.{symbol-in-table}
-use Rattle.walk.specs.Walk.{walkIn, walkFrom}
+use Rattle.walk.specs.Walk.{walkIn, endOf, visitedFrom}
 use Rattle.word.proofs.Test.{found}
 use Rattle.walk.proofs.walk_tables.Statement.{statement}
 use Rattle.walk.proofs.walk_tables.Tie as tie
 
 abbrev Inv-loop : tie.InvT-loop
-Inv-loop file t ends count i₀ visited₀ i visited = (visited ≤ i) × (i ≤ t .count) × (walkIn file t ≡ walkFrom file t (t .count - visited) i visited)
+Inv-loop file t count i₀ visited₀ i visited = (visited ≤ i) × (i ≤ t .count) × (walkIn file t ≡ endOf file t i visited (visitedFrom file t (t .count - visited) i))
 
 abbrev μ-loop : tie.MeasureT-loop
-μ-loop file t ends count i₀ visited₀ i visited = t .count - i
+μ-loop file t count i₀ visited₀ i visited = t .count - i
 
 -- the entry and its auxiliaries are in the table
 in-table : (c : tie.After-a2 Inv-loop μ-loop) → c .before .before .before .before .loop .i + 1 + c .a2 .given .0 .0 .numaux ≤ c .before .before .before .before .before .before .args .t .count
