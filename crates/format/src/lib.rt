@@ -4,7 +4,7 @@ ghost use Prim.Native.Nat.{_+_, _≤_};
 ghost use lib.ListN.{length};
 ghost use Rattle.word.specs.Number.{bytesIn};
 ghost use Rattle.format.specs.Name.{nameField};
-ghost use Rattle.format.specs.Range.{textIn};
+ghost use Rattle.format.specs.Range.{textIn, textOf};
 ghost use Rattle.format.specs.Layout.{formatOf, headerLayout, sectionLayout, auxLayout, auxNumbers, symbolLayout, shortName, loaderLayout, relocationLayout, addressLimit, bitsOf};
 use word::Field;
 
@@ -332,6 +332,20 @@ pub fn last_address(f: Format) -> VirtualAddress
     }
 }
 
+// The text in a part of the file: up to its first zero, or all of it.
+pub fn text_of(file: &[u8], r: FileRange) -> FileRange
+    requires { ⌜ r .start .0 + r .length ≤ length (now file) ⌝ }
+    ensures { λ x. ⌜ x ≡ textOf (now (file .entry)) r ⌝ }
+{
+    let from = r.start;
+    let start = from.0 as usize;
+    let end = start + r.length as usize;
+    FileRange {
+        start: from,
+        length: word::first_zero(&file[start..end]) as u64,
+    }
+}
+
 // The text at the place `f` of what starts at `base`: up to the first zero.
 pub fn text_in(file: &[u8], base: usize, f: Field) -> FileRange
     requires { ⌜ base + f .offset + bytesIn (f .width) ≤ length (now file) ⌝ }
@@ -339,11 +353,11 @@ pub fn text_in(file: &[u8], base: usize, f: Field) -> FileRange
 {
     let start = base + f.offset;
     let width = f.width;
-    let end = start + word::bytes_in(width);
-    FileRange {
+    let r = FileRange {
         start: FileOffset(start as u64),
-        length: word::first_zero(&file[start..end]) as u64,
-    }
+        length: word::bytes_in(width) as u64,
+    };
+    text_of(file, r)
 }
 
 // How many bits an address has.

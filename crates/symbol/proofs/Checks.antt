@@ -9,6 +9,7 @@ use lib.Dec.{leb}
 use Rattle.word.specs.Test.{past}
 use Rattle.word.proofs.Test.{past-not}
 use Rattle.format.specs.declared.SymbolIndex.{SymbolIndex}
+use Rattle.refusal.specs.declared.Refusal.{Refusal}
 use Rattle.refusal.specs.declared.Refusal.the-variants.{Index, Aux, Scnum, Name}
 use Rattle.refusal.specs.declared.IndexItem.the-variants.{NoSymbol}
 use Rattle.refusal.specs.declared.Verdict.{Verdict}
@@ -20,8 +21,8 @@ use Rattle.symbol.specs.declared.SymbolEntry.{SymbolEntry}
 use Rattle.symbol.specs.declared.Symbol.{Symbol}
 use Rattle.symbol.specs.declared.SymbolAnswer.the-variants.{Found, Refused}
 use Rattle.symbol.specs.Entry.{OpenTables, entryOf}
-use Rattle.symbol.specs.Name.{nameIn, hasName}
-use Rattle.symbol.specs.Symbol.{indexCheck, auxCheck, isSection, scnumCheck, verdictOf, nameCheck, symbolChecks, symbolCheck, symbolOf, symbolIn}
+use Rattle.symbol.specs.Name.{hasName}
+use Rattle.symbol.specs.Symbol.{indexCheck, auxCheck, isSection, scnumCheck, nameCheck, symbolChecks, symbolCheck, symbolOf, symbolIn}
 use Rattle.symbol.proofs.Names.{name-judged}
 
 -- ---- the checks in their order: AUX, SECTION, NAME
@@ -56,6 +57,14 @@ module _ (file : List ℕ) (t : Tables) (i : SymbolIndex) where
   unfolding symbolIn symbolCheck indexCheck
   symbol-judged h a b = rw (b, a, lt-leb (t .count) (i .0) h)
 
+  -- the same by the verdict
+  module _ {e : SymbolEntry} {v : Verdict} (h : i .0 < t .count) (a : e ≡ entryOf file t i) (b : v ≡ firstRefusal (symbolChecks file t i e)) where
+    pub symbol-found : v ≡ verdict.Accepted → symbolIn file t i ≡ Found (symbolOf e)
+    symbol-found k = sym (rw k at (symbol-judged h a b))
+
+    pub symbol-refused : {x : Refusal} → v ≡ verdict.Refused x → symbolIn file t i ≡ Refused x
+    symbol-refused k = sym (rw k at (symbol-judged h a b))
+
   -- what is found: an entry of the table that every check accepts
   module _ {s : Symbol} (k : symbolIn file t i ≡ Found s) where
     found : (symbolCheck file t i (entryOf file t i) ≡ verdict.Accepted) × (symbolOf (entryOf file t i) ≡ s)
@@ -83,5 +92,5 @@ module _ (file : List ℕ) (t : Tables) (i : SymbolIndex) where
         rw symbol-numaux
         (past-not (i .0 + 1) n (t .count) (accepted-test (past (i .0 + 1) n (t .count)) (Aux i) (unfold auxCheck in symbol-accepted .0)))
 
-    pub name-accepted : verdictOf (nameIn file t i (entryOf file t i)) ≡ verdict.Accepted
-    name-accepted = unfold nameCheck in symbol-accepted .1 .1 .0
+    pub name-accepted : nameCheck file t i (entryOf file t i) ≡ verdict.Accepted
+    name-accepted = symbol-accepted .1 .1 .0

@@ -13,7 +13,7 @@ use Rattle.refusal.specs.Part.{rangeBytes}
 use Rattle.symbol.specs.declared.Tables.{Tables}
 use Rattle.symbol.specs.declared.SymbolEntry.{SymbolEntry}
 use Rattle.format.specs.declared.NameField.the-variants.{Offset}
-use Rattle.symbol.specs.Name.{stringIn, nameBy, nameIn}
+use Rattle.symbol.specs.Name.{stringRoom, roomBy, nameIn}
 
 abbrev pub strings : List ℕ
 strings = 0 ∷ 0 ∷ 0 ∷ 7 ∷ 0x61 ∷ 0x62 ∷ 0 ∷ []
@@ -34,5 +34,5 @@ named o = (nameIn strings tables index (entry o), rangeBytes strings (nameIn str
 
 -- P10: offset 4 is `ab`, 6 is empty, 3 and 7 are NAME
 pub p10 : map named (4 ∷ 6 ∷ 3 ∷ 7 ∷ []) ≡ (Found (range 4 2), 0x61 ∷ 0x62 ∷ []) ∷ (Found (range 6 0), []) ∷ (Refused (Name index), []) ∷ (Refused (Name index), []) ∷ []
-unfolding nameBy stringIn firstZero
+unfolding roomBy stringRoom firstZero
 p10 = refl

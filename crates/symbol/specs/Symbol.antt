@@ -22,7 +22,7 @@ use Rattle.symbol.specs.declared.Symbol.{Symbol}
 use Rattle.symbol.specs.declared.SymbolAnswer.{SymbolAnswer}
 use Rattle.symbol.specs.declared.SymbolAnswer.the-variants.{Found, Refused}
 use Rattle.symbol.specs.Entry.{entryOf}
-use Rattle.symbol.specs.Name.{nameIn}
+use Rattle.symbol.specs.Name.{roomIn}
 
 -- ---- the section that `n_scnum` names, by its signed number
 
@@ -67,7 +67,7 @@ verdictOf (range.Refused x) = verdict.Refused x
 
 -- NAME: the name lies nowhere
 unfoldable pub nameCheck : List ℕ → Tables → SymbolIndex → SymbolEntry → Verdict
-nameCheck file t i e = verdictOf (nameIn file t i e)
+nameCheck file t i e = verdictOf (roomIn file t i e)
 
 -- the checks of the entry e at index i, in their order
 abbrev pub symbolChecks : List ℕ → Tables → SymbolIndex → SymbolEntry → List Verdict

@@ -8,8 +8,8 @@ ghost use Rattle.format.specs.Range.{bytesOf};
 ghost use Rattle.refusal.specs.Order.{firstRefusal};
 ghost use Rattle.header.specs.Open.{openOf};
 ghost use Rattle.symbol.specs.Entry.{OpenTables, entryAt, entryOf};
-ghost use Rattle.symbol.specs.Name.{hasName};
-ghost use Rattle.symbol.specs.Symbol.{isSection, symbolChecks, sectionIn, symbolOf, symbolIn};
+ghost use Rattle.symbol.specs.Name.{roomIn, hasName};
+ghost use Rattle.symbol.specs.Symbol.{isSection, nameCheck, symbolChecks, sectionIn, symbolOf, symbolIn};
 use format::FileOffset;
 use format::FileRange;
 use format::Format;
@@ -18,6 +18,7 @@ use format::SectionNumber;
 use format::SymbolIndex;
 use header::Summary;
 use refusal::IndexItem;
+use refusal::RangeAnswer;
 use refusal::Refusal;
 use refusal::Verdict;
 
@@ -152,8 +153,46 @@ pub fn has_name(ends: u64, name: NameField) -> bool
     }
 }
 
+// The bytes that the name of the entry `e` at the index `i` may take: it ends at the first zero in them. That zero is not looked
+// for: many symbols may share one long string, and a listing that read it for each would not be linear.
+pub fn name_room(file: &[u8], t: Tables, i: SymbolIndex, e: SymbolEntry) -> FileRange
+    requires { ⌜ OpenTables (now file) t × (i .0 < t .count) × (nameCheck (now file) t i e ≡ Verdict.Accepted) ⌝ }
+    ensures { λ r. ⌜ RangeAnswer.Found r ≡ roomIn (now (file .entry)) t i e ⌝ }
+{
+    let name = e.name;
+    match name {
+        NameField::Short => {
+            let place = format::short_name();
+            let width = place.width;
+            let start = t.start;
+            let base = start.0 + i.0 * format::SYMBOL_LENGTH;
+            let first = base + place.offset as u64;
+            FileRange {
+                start: FileOffset(first),
+                length: word::bytes_in(width) as u64,
+            }
+        }
+        NameField::Offset(o) => {
+            if o == 0 {
+                return FileRange {
+                    start: FileOffset(0),
+                    length: 0,
+                };
+            }
+            let strings = t.strings;
+            let from = strings.start;
+            let at = from.0 + o;
+            let room = strings.length - o;
+            FileRange {
+                start: FileOffset(at),
+                length: room,
+            }
+        }
+    }
+}
+
 // AUX, SECTION and NAME of the entry `e` at the index `i`, in this order.
-fn check_entry(file: &[u8], t: Tables, i: SymbolIndex, e: SymbolEntry) -> Verdict
+pub fn check_entry(file: &[u8], t: Tables, i: SymbolIndex, e: SymbolEntry) -> Verdict
     requires { ⌜ OpenTables (now file) t × (i .0 < t .count) ⌝ }
     ensures { λ r. ⌜ r ≡ firstRefusal (symbolChecks (now (file .entry)) t i e) ⌝ }
 {

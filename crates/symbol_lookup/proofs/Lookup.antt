@@ -1,11 +1,13 @@
 -- The laws of a symbol that is looked up in a file, and of its name. Assumes nothing.
-use Prim.Native.Nat.{ℕ}
+use Prim.Native.Nat.{ℕ, _+_, _≤_}
 use mathlib.Core.Path.{_≡_, refl, ap}
 use mathlib.Core.List.{List}
 use native.Mathlib.Omega.{arith}
 use lib.ListN.{length}
+use Rattle.format.specs.declared.FileRange.{FileRange}
 use Rattle.format.specs.declared.SymbolIndex.{SymbolIndex}
 use Rattle.refusal.specs.declared.Refusal.{Refusal}
+use Rattle.refusal.specs.declared.RangeAnswer.{RangeAnswer}
 use Rattle.refusal.specs.declared.RangeAnswer.the-variants as range
 use Rattle.refusal.specs.declared.Verdict.{Verdict}
 use Rattle.refusal.specs.declared.Verdict.the-variants as verdict
@@ -18,11 +20,17 @@ use Rattle.symbol.specs.declared.Tables.{Tables}
 use Rattle.symbol.specs.declared.Symbol.{Symbol}
 use Rattle.symbol.specs.declared.SymbolAnswer.{SymbolAnswer}
 use Rattle.symbol.specs.declared.SymbolAnswer.the-variants.{Found, Refused}
-use Rattle.symbol.specs.Entry.{tablesAt, OpenTables}
+use Rattle.symbol.specs.Entry.{tablesAt, entryOf, OpenTables}
+use Rattle.symbol.specs.Name.{roomIn}
 use Rattle.symbol.specs.Symbol.{symbolIn}
+use Rattle.symbol.proofs.Names.{room-in-file}
 use Rattle.symbol.proofs.Checks.{symbol-known}
 use Rattle.symbol_lookup.specs.Lookup.{symbolAt, nameBehind, symbolNameAt, reportOfSymbol, symbolReport}
-use Rattle.symbol_lookup.proofs.Names.{NoZero, name-in-file, field-no-zero}
+use Rattle.symbol_lookup.proofs.Names.{NoZero, name-no-zero-in, name-within-room}
+
+-- a part that is found lies where its answer does
+pub found-within : {n : ℕ} {r : FileRange} {a : RangeAnswer} → range.Found r ≡ a → Within n a → r .start .0 + r .length ≤ n
+found-within e h = rw (← e) at h
 
 module _ (file : List ℕ) (i : SymbolIndex) where
   pub at-refused : {o : Opened} {x : Refusal} → o ≡ openOf file → o .verdict ≡ verdict.Refused x → Refused x ≡ symbolAt file i
@@ -60,7 +68,8 @@ module _ (file : List ℕ) (i : SymbolIndex) where
   name-in (Refused x) e = tt
   name-in (Found s) e =
       let k = found-in e in
-      name-in-file file (tablesAt file) i _ (k .0) (symbol-known file (tablesAt file) i (k .1))
+      let t = tablesAt file in
+      name-within-room file (roomIn file t i (entryOf file t i)) (room-in-file file t i _ (k .0) (symbol-known file t i (k .1)))
 
   pub name-within : Within (length file) (symbolNameAt file i)
   unfolding symbolNameAt
@@ -73,7 +82,7 @@ module _ (file : List ℕ) (i : SymbolIndex) where
   no-zero-in : (a : SymbolAnswer) → NoZero (rangeBytes file (nameBehind file (tablesAt file) i a))
   unfolding nameBehind
   no-zero-in (Refused x) = λ k h. absurd (omega arith)
-  no-zero-in (Found s) = field-no-zero file (tablesAt file) i _
+  no-zero-in (Found s) = name-no-zero-in file (roomIn file (tablesAt file) i (entryOf file (tablesAt file) i))
 
   pub name-no-zero : NoZero (rangeBytes file (symbolNameAt file i))
   unfolding symbolNameAt

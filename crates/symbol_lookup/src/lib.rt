@@ -1,22 +1,15 @@
 // A symbol and its name, looked up by the symbol's index.
 ghost use mathlib.Core.Path.{_≡_};
-ghost use Prim.Native.Nat.{_+_, _≤_, _<_};
-ghost use lib.ListN.{length};
 ghost use Rattle.refusal.specs.Part.{rangeBytes, reportOfRange};
 ghost use Rattle.symbol.specs.Entry.{OpenTables};
-ghost use Rattle.symbol.specs.Name.{stringIn, nameIn};
 ghost use Rattle.symbol.specs.Symbol.{scnumOf, symbolIn};
 ghost use Rattle.symbol_lookup.specs.Lookup.{symbolAt, nameBehind, symbolNameAt, signed64, reportOfSymbol, symbolReport};
-use format::FileOffset;
-use format::FileRange;
-use format::NameField;
 use format::SymbolIndex;
 use refusal::Head;
 use refusal::RangeAnswer;
 use refusal::Refusal;
 use refusal::Verdict;
 use symbol::SymbolAnswer;
-use symbol::SymbolEntry;
 use symbol::SymbolSection;
 use symbol::Tables;
 
@@ -48,55 +41,6 @@ pub fn symbol_at(file: &[u8], i: SymbolIndex) -> SymbolAnswer
     }
 }
 
-// The name at the offset `o` of the string table.
-fn string_range(file: &[u8], strings: FileRange, o: u64, i: SymbolIndex) -> RangeAnswer
-    requires { ⌜ strings .start .0 + strings .length ≤ length (now file) ⌝ }
-    ensures { λ r. ⌜ r ≡ stringIn (now (file .entry)) strings o i ⌝ }
-{
-    if o < 4 {
-        return RangeAnswer::Refused(Refusal::Name(i));
-    }
-    if strings.length <= o {
-        return RangeAnswer::Refused(Refusal::Name(i));
-    }
-    let from = strings.start;
-    let start = from.0 as usize + o as usize;
-    let end = from.0 as usize + strings.length as usize;
-    let n = word::first_zero(&file[start..end]) as u64;
-    if strings.length - o <= n {
-        return RangeAnswer::Refused(Refusal::Name(i));
-    }
-    RangeAnswer::Found(FileRange {
-        start: FileOffset(start as u64),
-        length: n,
-    })
-}
-
-// Where the name of the entry `e` at the index `i` lies.
-fn name_range(file: &[u8], t: Tables, i: SymbolIndex, e: SymbolEntry) -> RangeAnswer
-    requires { ⌜ OpenTables (now file) t × (i .0 < t .count) ⌝ }
-    ensures { λ r. ⌜ r ≡ nameIn (now (file .entry)) t i e ⌝ }
-{
-    let name = e.name;
-    match name {
-        NameField::Short => {
-            let start = t.start;
-            let base = start.0 + i.0 * format::SYMBOL_LENGTH;
-            RangeAnswer::Found(format::text_in(file, base as usize, format::short_name()))
-        }
-        NameField::Offset(o) => {
-            if o == 0 {
-                return RangeAnswer::Found(FileRange {
-                    start: FileOffset(0),
-                    length: 0,
-                });
-            }
-            let strings = t.strings;
-            string_range(file, strings, o, i)
-        }
-    }
-}
-
 // Where the name of the symbol at an index of a file that is open lies.
 fn name_in(file: &[u8], t: Tables, i: SymbolIndex) -> RangeAnswer
     requires { ⌜ OpenTables (now file) t ⌝ }
@@ -107,7 +51,8 @@ fn name_in(file: &[u8], t: Tables, i: SymbolIndex) -> RangeAnswer
         SymbolAnswer::Refused(x) => RangeAnswer::Refused(x),
         SymbolAnswer::Found(_) => {
             let e = symbol::entry_in(file, t, i);
-            name_range(file, t, i, e)
+            let room = symbol::name_room(file, t, i, e);
+            RangeAnswer::Found(format::text_of(file, room))
         }
     }
 }

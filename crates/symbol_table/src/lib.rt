@@ -1,62 +1,18 @@
 // The symbol table listed whole: the file is opened once, and each symbol that the walk visits gets a row of numbers.
 ghost use mathlib.Core.Path.{_≡_};
-ghost use Prim.Native.Nat.{_<_};
 ghost use lib.ListN.{length};
 ghost use Rattle.refusal.specs.Order.{byVerdict, ifAccepted};
 ghost use Rattle.symbol.specs.Entry.{OpenTables};
-ghost use Rattle.symbol.specs.Name.{nameIn};
-ghost use Rattle.symbol.specs.Symbol.{verdictOf, symbolIn};
+ghost use Rattle.symbol.specs.Symbol.{symbolIn};
 ghost use Rattle.walk.specs.Walk.{walkIn, reportOfWalk};
-ghost use Rattle.symbol_table.specs.Row.{nameSpan, symbolRow};
+ghost use Rattle.symbol_table.specs.Row.{symbolRow};
 ghost use Rattle.symbol_table.specs.Table.{rowsIn, roomFor, symbolTable, symbolsAfter};
-use format::FileOffset;
-use format::FileRange;
-use format::NameField;
 use format::SymbolIndex;
 use refusal::Verdict;
 use symbol::Symbol;
 use symbol::SymbolAnswer;
-use symbol::SymbolEntry;
 use symbol::Tables;
 use walk::WalkAnswer;
-
-// Where the name of the entry `e` at the index `i` starts, and how many bytes it may take. Its end is not looked for:
-// many symbols may share one long string, and a listing that read it for each would not be linear.
-fn name_span(file: &[u8], t: Tables, i: SymbolIndex, e: SymbolEntry) -> FileRange
-    requires { ⌜ OpenTables (now file) t × (i .0 < t .count) × (verdictOf (nameIn (now file) t i e) ≡ Verdict.Accepted) ⌝ }
-    ensures { λ r. ⌜ r ≡ nameSpan t i e ⌝ }
-{
-    let name = e.name;
-    match name {
-        NameField::Short => {
-            let place = format::short_name();
-            let width = place.width;
-            let start = t.start;
-            let base = start.0 + i.0 * format::SYMBOL_LENGTH;
-            let first = base + place.offset as u64;
-            FileRange {
-                start: FileOffset(first),
-                length: word::bytes_in(width) as u64,
-            }
-        }
-        NameField::Offset(o) => {
-            if o == 0 {
-                return FileRange {
-                    start: FileOffset(0),
-                    length: 0,
-                };
-            }
-            let strings = t.strings;
-            let from = strings.start;
-            let at = from.0 + o;
-            let room = strings.length - o;
-            FileRange {
-                start: FileOffset(at),
-                length: room,
-            }
-        }
-    }
-}
 
 // The row of the symbol `s` at the index `i`.
 fn symbol_row(file: &[u8], t: Tables, i: SymbolIndex, s: Symbol) -> [u64; 13]
@@ -64,7 +20,7 @@ fn symbol_row(file: &[u8], t: Tables, i: SymbolIndex, s: Symbol) -> [u64; 13]
     ensures { λ r. ⌜ r ≡ symbolRow (now (file .entry)) i ⌝ }
 {
     let e = symbol::entry_in(file, t, i);
-    let name = name_span(file, t, i, e);
+    let name = symbol::name_room(file, t, i, e);
     let start = name.start;
     let y = symbol_lookup::report_symbol(SymbolAnswer::Found(s));
     let c = csect_lookup::report_csect(csect_lookup::csect_in(file, t, i));

@@ -13,16 +13,19 @@ use Rattle.format.specs.declared.SymbolIndex.{SymbolIndex}
 use Rattle.refusal.specs.declared.Refusal.{Refusal}
 use Rattle.refusal.specs.declared.Verdict.{Verdict}
 use Rattle.refusal.specs.declared.Verdict.the-variants as verdict
-use Rattle.refusal.specs.Order.{byVerdict}
+use Rattle.refusal.specs.Refusal.{isRefused}
+use Rattle.refusal.specs.Order.{firstRefusal, byVerdict}
+use Rattle.refusal.proofs.Order.{accepts}
 use Rattle.header.specs.declared.Opened.{Opened}
 use Rattle.header.specs.Open.{openOf}
 use Rattle.symbol.specs.declared.Tables.{Tables}
 use Rattle.symbol.specs.declared.Symbol.{Symbol}
+use Rattle.symbol.specs.declared.SymbolEntry.{SymbolEntry}
 use Rattle.symbol.specs.declared.SymbolAnswer.{SymbolAnswer}
 use Rattle.symbol.specs.declared.SymbolAnswer.the-variants as symbol
 use Rattle.symbol.specs.Entry.{tablesAt, OpenTables, entryOf}
-use Rattle.symbol.specs.Symbol.{symbolCheck, symbolOf, symbolIn}
-use Rattle.symbol.proofs.Checks.{symbol-numaux}
+use Rattle.symbol.specs.Symbol.{symbolChecks, symbolCheck, symbolOf, symbolIn}
+use Rattle.symbol.proofs.Checks.{symbol-found, symbol-refused, symbol-numaux, symbol-in-table}
 use Rattle.symbol_lookup.specs.Lookup.{symbolAt}
 use Rattle.symbol_lookup.proofs.Lookup.{at-opened}
 use Rattle.walk.specs.declared.WalkAnswer.{WalkAnswer}
@@ -138,6 +141,24 @@ module _ (file : List ℕ) (t : Tables) where
     walk-stop e =
         let z : n + 0 ≡ n = omega arith in
         ap (endOf file t i n) (visited-stop file t i n p h e) ∙ rw (lt-leb (t .count) i h, refused-check file t (record { 0 = i }) e, z) refl
+
+    -- the same by the entry's own verdict
+    module _ {e : SymbolEntry} {v : Verdict} (a : e ≡ entryOf file t (record { 0 = i })) (b : v ≡ firstRefusal (symbolChecks file t (record { 0 = i }) e)) where
+      pub walk-refuses : isRefused v ≡ true → endOf file t i n (visitedFrom file t (t .count - n) i) ≡ record { visited = n; end = record { 0 = i }; cause = v }
+      walk-refuses k = by-verdict v b k
+        where
+          by-verdict : (w : Verdict) → w ≡ firstRefusal (symbolChecks file t (record { 0 = i }) e) → isRefused w ≡ true → endOf file t i n (visitedFrom file t (t .count - n) i) ≡ record { visited = n; end = record { 0 = i }; cause = w }
+          by-verdict verdict.Accepted q z = let n : _≡_ {A = ℕ} 0 1 = cc in absurd (omega arith)
+          by-verdict (verdict.Refused x) q z = walk-stop (symbol-refused file t (record { 0 = i }) h a q refl)
+
+      pub walk-accepts : isRefused v ≡ false → endOf file t i n (visitedFrom file t (t .count - n) i) ≡ endOf file t (i + 1 + e .numaux) (n + 1) (visitedFrom file t (t .count - (n + 1)) (i + 1 + e .numaux))
+      unfolding symbolOf
+      walk-accepts k = walk-turn (symbol-found file t (record { 0 = i }) h a b (accepts v k))
+
+      -- the entry and its auxiliaries are in the table
+      pub walk-inside : isRefused v ≡ false → i + 1 + e .numaux ≤ t .count
+      unfolding symbolOf
+      walk-inside k = symbol-in-table file t (record { 0 = i }) (symbol-found file t (record { 0 = i }) h a b (accepts v k))
 
 -- ---- the answer
 

@@ -6,7 +6,6 @@ use format::SymbolIndex;
 use refusal::Head;
 use refusal::Refusal;
 use refusal::Verdict;
-use symbol::SymbolAnswer;
 use symbol::Tables;
 
 // How many entries the walk visited, the index where it ended, and why: accepted at the table's end.
@@ -39,19 +38,16 @@ pub fn walk_tables(file: &[u8], t: Tables) -> WalkEnd
     let mut i: u64 = 0;
     let mut visited: u64 = 0;
     while i < count {
-        let a = symbol::symbol_in(file, t, SymbolIndex(i));
-        match a {
-            SymbolAnswer::Refused(x) => {
-                return WalkEnd {
-                    visited,
-                    end: SymbolIndex(i),
-                    cause: Verdict::Refused(x),
-                };
-            }
-            SymbolAnswer::Found(s) => {
-                i = i + 1 + s.numaux;
-            }
+        let e = symbol::entry_in(file, t, SymbolIndex(i));
+        let cause = symbol::check_entry(file, t, SymbolIndex(i), e);
+        if refusal::refuses(cause) {
+            return WalkEnd {
+                visited,
+                end: SymbolIndex(i),
+                cause,
+            };
         }
+        i = i + 1 + e.numaux;
         visited += 1;
     }
     WalkEnd {
