@@ -1,3 +1,4 @@
+use native.Mathlib.Omega.{arith}
 use borrow.Author.Tests.{eq-eqb, ne-eqb, lt-leb, le-leb}
 use Rattle.symbol.specs.Name.{hasName}
 use borrow.Author.Needs.{needs}
@@ -16,7 +17,7 @@ returns c = rw (c .before .before .name .given .1, eq-eqb _ 0 (c .if1 .taken))
 
 returns-2 : tie.Need-returns-2
 unfolding hasName
-returns-2 c = rw (c .before .before .before .name .given .1, ne-eqb _ 0 (c .before .if1 .left), lt-leb 4 _ (c .if2 .taken))
+returns-2 c = rw (c .before .before .before .name .given .1, ne-eqb _ 0 (c .before .if1 .left), lt-leb 4 (c .before .before .before .name .given .0 .0) (omega (arith, c .if2 .taken)))
 
 returns-3 : tie.Need-returns-3
 unfolding hasName
