@@ -7,11 +7,11 @@ use native.Mathlib.Decide.{ℕ-discrete, decLe}
 use native.Mathlib.Nat.{add-zero}
 use native.Mathlib.Numerals.{add-one}
 use native.Mathlib.Omega.{arith}
-use borrow.Author.Tests.{ne-eqb}
+use borrow.Author.Tests.{eq-eqb, ne-eqb}
 use lib.Dec.{eqb}
 use lib.ListN.{length, getD, drop, drop-of-length-le}
 use lib.Seq.{drop-cons}
-use Rattle.word.specs.Zero.{firstZero, zerosIn, ZeroEnd}
+use Rattle.word.specs.Zero.{firstZero, zerosIn, endBefore, zeroEnd}
 
 -- a zero at i, something else at i, and nothing left
 pub zero-here : (s : List ℕ) (i : ℕ) → i < length s → getD s i 0 ≡ 0 → firstZero (drop i s) ≡ 0
@@ -95,17 +95,66 @@ zero-absent s zero o h none = zero-le
 zero-absent s (suc n) o h none =
     rw (zero-later s o (omega arith) (none o (omega arith) (omega arith))) (suc-le-suc (zero-absent s n (o + 1) (omega arith) (λ k a b. none k (omega arith) b)))
 
--- exactly the places below the last zero's end have a zero at or after them
-pub zero-known : (s : List ℕ) (n o : ℕ) → ZeroEnd s n → o < n → firstZero (drop o s) < length s - o
-zero-known s n o z h =
+-- n is one past the last zero of s, or 0 where there is none
+pub record ZeroEnd (s : List ℕ) (n : ℕ) : Type 0 where
+  pub within : n ≤ length s
+  pub after : (k : ℕ) → n ≤ k → k < length s → getD s k 0 ≡ 0 → ⊥
+  pub last : 0 < n → getD s (n - 1) 0 ≡ 0
+
+-- that is what the definition gives
+zero-ends : (s : List ℕ) → ZeroEnd s (zeroEnd s)
+unfolding zeroEnd
+zero-ends [] = record { within = zero-le; after = λ k a b e. omega arith; last = λ h. absurd (omega arith) }
+zero-ends (x ∷ xs) = by-rest (zeroEnd xs) (zero-ends xs) (ℕ-discrete x 0)
+  where
+    next : (n : ℕ) → ZeroEnd xs n → (k : ℕ) → n ≤ k → suc k < suc (length xs) → getD xs k 0 ≡ 0 → ⊥
+    next n z k a b e = z .after k a (omega arith) e
+
+    behind : (n : ℕ) → ZeroEnd xs n → (k : ℕ) → suc n ≤ k → k < suc (length xs) → getD (x ∷ xs) k 0 ≡ 0 → ⊥
+    behind n z zero a b e = omega arith
+    behind n z (suc k) a b e = next n z k (omega arith) b e
+
+    none : (x ≡ 0 → ⊥) → ZeroEnd xs 0 → (k : ℕ) → k < suc (length xs) → getD (x ∷ xs) k 0 ≡ 0 → ⊥
+    none p z zero b e = p e
+    none p z (suc k) b e = next 0 z k (omega arith) b e
+
+    by-rest : (n : ℕ) → ZeroEnd xs n → Dec (x ≡ 0) → ZeroEnd (x ∷ xs) (endBefore (eqb x 0) n)
+    by-rest (suc n) z d =
+        let w = z .within in
+        let p : suc (suc n) - 1 ≡ suc n = omega arith in
+        let q : suc n - 1 ≡ n = omega arith in
+        record { within = omega arith; after = behind (suc n) z; last = λ h. rw p (rw q at (z .last (omega arith))) }
+    by-rest zero z (yes e) = rw (eq-eqb x 0 e) record { within = omega arith; after = behind 0 z; last = λ h. e }
+    by-rest zero z (no p) = rw (ne-eqb x 0 p) record { within = zero-le; after = λ k a b e. none p z k b e; last = λ h. absurd (omega arith) }
+
+-- and nothing else is
+pub zero-end-is : (s : List ℕ) (n : ℕ) → ZeroEnd s n → n ≡ zeroEnd s
+zero-end-is s n z = by-order (decLe n (zeroEnd s)) (decLe (zeroEnd s) n)
+  where
+    below : (a b : ℕ) → ZeroEnd s a → ZeroEnd s b → a < b → ⊥
+    below a b y z h = let w = z .within in y .after (b - 1) (omega arith) (omega arith) (z .last (omega arith))
+
+    by-order : Dec (n ≤ zeroEnd s) → Dec (zeroEnd s ≤ n) → n ≡ zeroEnd s
+    by-order (yes a) (yes b) = omega arith
+    by-order (no a) d = absurd (below (zeroEnd s) n (zero-ends s) z (omega arith))
+    by-order (yes a) (no b) = absurd (below n (zeroEnd s) z (zero-ends s) (omega arith))
+
+pub zero-end-within : (s : List ℕ) → zeroEnd s ≤ length s
+zero-end-within s = zero-ends s .within
+
+-- exactly the places below it have a zero at or after them
+pub zero-known : (s : List ℕ) (o : ℕ) → o < zeroEnd s → firstZero (drop o s) < length s - o
+zero-known s o h =
+    let n = zeroEnd s in
+    let z = zero-ends s in
     let w = z .within in
     let place : o + (n - 1 - o) ≡ n - 1 = omega arith in
     let found = zero-by s (n - 1 - o) o (omega arith) (rw place (z .last (omega arith))) in
     omega arith
 
-pub zero-unknown : (s : List ℕ) (n o : ℕ) → ZeroEnd s n → n ≤ o → length s - o ≤ firstZero (drop o s)
-zero-unknown s n o z h = by-end (decLe o (length s))
+pub zero-unknown : (s : List ℕ) (o : ℕ) → zeroEnd s ≤ o → length s - o ≤ firstZero (drop o s)
+zero-unknown s o h = by-end (decLe o (length s))
   where
     by-end : Dec (o ≤ length s) → length s - o ≤ firstZero (drop o s)
-    by-end (yes l) = zero-absent s (length s - o) o (omega arith) (λ k a b. z .after k (omega arith) b)
+    by-end (yes l) = zero-absent s (length s - o) o (omega arith) (λ k a b. zero-ends s .after k (omega arith) b)
     by-end (no l) = let e : length s - o ≡ 0 = omega arith in rw e zero-le

@@ -4,7 +4,7 @@ ghost use mathlib.Core.List.{[], _∷_};
 ghost use Prim.Native.Nat.{_+_, _*_, _/_, _%_, _≤_, _<_, _^_};
 ghost use lib.ListN.{length, getD};
 ghost use Rattle.word.specs.Number.{field, fieldAt, bytesIn, fieldIn};
-ghost use Rattle.word.specs.Zero.{firstZero, zerosIn, ZeroEnd};
+ghost use Rattle.word.specs.Zero.{firstZero, zerosIn, zeroEnd};
 ghost use Rattle.word.specs.Test.{past};
 
 // How many bytes a number takes.
@@ -180,7 +180,7 @@ fn zero_bit(b: u8) -> usize
 
 // One past the last zero, or 0 where there is none.
 pub fn zero_end(s: &[u8]) -> usize
-    ensures { λ r. ⌜ ZeroEnd (now (s .entry)) r ⌝ }
+    ensures { λ r. ⌜ r ≡ zeroEnd (now (s .entry)) ⌝ }
 {
     let mut i = s.len();
     while 0 < i {

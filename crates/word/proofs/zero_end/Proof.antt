@@ -3,7 +3,7 @@ use mathlib.Core.Path.{_≡_}
 use lib.ListN.{length, getD}
 use borrow.Author.Needs.{needs}
 use native.Mathlib.Omega.{arith}
-use Rattle.word.proofs.Zero.{zeros-less}
+use Rattle.word.proofs.Zero.{zeros-less, zero-end-is}
 use Rattle.word.proofs.zero_end.Statement.{statement}
 use Rattle.word.proofs.zero_end.Tie as tie
 
@@ -23,7 +23,7 @@ shared-slice-read-if1 : tie.Need-shared-slice-read-if1 Inv-loop μ-loop
 shared-slice-read-if1 c = search needs
 
 returns : tie.Need-returns Inv-loop μ-loop
-returns c = record { within = search needs; after = c .before .before .before .loop .inv .1; last = λ _. c .if1 .taken }
+returns c = zero-end-is (c .before .before .before .before .args .s .now) _ record { within = search needs; after = c .before .before .before .loop .inv .1; last = λ _. c .if1 .taken }
 
 sub-i : tie.Need-sub-i Inv-loop μ-loop
 sub-i c = search needs
@@ -35,7 +35,7 @@ loop-again : tie.Need-loop-again Inv-loop μ-loop
 loop-again c = (search needs, zeros-less (c .before .before .before .before .args .s .now) (c .before .before .before .loop .i) (c .before .before .loop-test .taken) (c .if1 .left) (c .before .before .before .loop .inv .1))
 
 returns-2 : tie.Need-returns-2 Inv-loop μ-loop
-returns-2 c = record { within = search needs; after = c .before .loop .inv .1; last = λ h. absurd (omega arith) }
+returns-2 c = zero-end-is (c .before .before .args .s .now) _ record { within = search needs; after = c .before .loop .inv .1; last = λ h. absurd (omega arith) }
 
 pub zero-end-spec : {M : Type 1} → statement M
 zero-end-spec =
