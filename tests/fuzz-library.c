@@ -774,7 +774,7 @@ static void records(xcoff_module_answer m)
 }
 
 /* The input as a sheet, and a sheet of its own. */
-static void sheets(xcoff_module_answer m)
+static void sheets(void)
 {
     xcoff_sheet_answer h = xcoff_sheet_head(file, length), r;
     xcoff_verdict v;
@@ -897,7 +897,7 @@ static uint64_t run(const uint8_t *input, size_t n)
         tables(m);
         images(m);
         records(m);
-        sheets(m);
+        sheets();
         if (m.image < HEAVY)
             input_as_calls(m);
         step = "the end";

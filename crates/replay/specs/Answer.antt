@@ -17,7 +17,7 @@ unfoldable pub answersOf : Relocatable → List Call → Images → List CallAns
 answersOf m [] x = []
 answersOf m (c ∷ cs) x = answerOf m (length (x .text)) (length (x .dat)) c ∷ answersOf m cs (effect m c x)
 
--- 1 of an accepted call
+-- 1 of an accepted call, 0 of a refused one
 unfoldable pub acceptedOne : CallAnswer → ℕ
 acceptedOne (Done r) = 1
 acceptedOne (Refused x) = 0

@@ -132,7 +132,7 @@ fn answer_call(file: &[u8], s: &[u64], at: usize, text: &mut [u8], data: &mut [u
 
 // ---- the list
 
-// 1 where a call was accepted.
+// 1 of an accepted call, 0 of a refused one.
 fn accepted_one(a: CallAnswer) -> u64
     ensures { λ r. ⌜ r ≡ acceptedOne a ⌝ }
 {

@@ -132,7 +132,11 @@ fn chain(
     let symbols = reference::loader_symbols(file).unwrap_or_default();
     let mut reached: Option<&Plan> = None;
     let mut before: Option<&Plan> = None;
-    for (call, _) in calls.iter().zip(theirs).filter(|(_, answer)| answer.is_ok()) {
+    for (call, _) in calls
+        .iter()
+        .zip(theirs)
+        .filter(|(_, answer)| answer.is_ok())
+    {
         match call {
             Call::Build(p) => (reached, before) = (Some(p), Some(p)),
             Call::Move(p, q) => {
