@@ -3,7 +3,7 @@ ghost use mathlib.Core.Path.{_≡_};
 ghost use mathlib.Core.Bool.{true};
 ghost use Prim.Native.Nat.{_≤_};
 ghost use Rattle.format.specs.Limit.{fileLimit};
-ghost use Rattle.relocation.specs.Relocation.{bytesWide, placeAt};
+ghost use Rattle.relocation.specs.Relocation.{placeAt};
 ghost use Rattle.clash.specs.Overlap.{First, Readable};
 ghost use Rattle.clash.specs.Ascending.{extentOf, Follows, StepOut};
 use format::Format;
@@ -29,19 +29,13 @@ struct StepAnswer {
     last: LastFields,
 }
 
-pub fn bytes_wide(wide: bool) -> u64
-    ensures { λ r. ⌜ r ≡ bytesWide wide ⌝ }
-{
-    if wide { 8 } else { 4 }
-}
-
 fn extent_of(e: FieldPlace) -> Extent
     requires { ⌜ e .offset ≤ fileLimit ⌝ }
     ensures { λ r. ⌜ r ≡ extentOf e ⌝ }
 {
     Extent {
         start: e.offset,
-        end: e.offset + bytes_wide(e.wide),
+        end: e.offset + relocation::bytes_wide(e.wide),
     }
 }
 

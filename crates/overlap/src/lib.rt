@@ -53,7 +53,7 @@ fn mark(cells: &mut [u8], base: u64, offset: u64, wide: bool) -> bool
     requires { ⌜ offset ≤ fileLimit ⌝ }
     ensures { λ r. ⌜ MarkOut base offset wide (now (cells .entry)) (now (cells .exit)) r ⌝ }
 {
-    let w = clash::bytes_wide(wide);
+    let w = relocation::bytes_wide(wide);
     let mut place = 0;
     while place < w {
         let v = code_of(wide, place);
@@ -102,7 +102,7 @@ fn lower(e: FieldPlace, text: bool, end: u64, next: u64) -> u64
     if !same_section(e.text, text) {
         return next;
     }
-    if e.offset + clash::bytes_wide(e.wide) <= end {
+    if e.offset + relocation::bytes_wide(e.wide) <= end {
         return next;
     }
     if next <= e.offset {

@@ -117,9 +117,9 @@ replayed file s at t x y e l =
 
 -- the report is made of the last call's
 pub reported : (a : ReplayAnswer) (r : CallReport) → r ≡ reportOfCall (a .last)
-    → record { head = r .head; hasentry = r .hasentry; entry = r .entry; hastoc = r .hastoc; toc = r .toc; calls = a .calls; accepted = a .accepted } ≡ reportOfReplay a
+    → record { head = r .head; «has_entry» = r .«has_entry»; entry = r .entry; «has_toc» = r .«has_toc»; toc = r .toc; calls = a .calls; accepted = a .accepted } ≡ reportOfReplay a
 reported a r e =
-    ap (λ (r : CallReport). record { head = r .head; hasentry = r .hasentry; entry = r .entry; hastoc = r .hastoc; toc = r .toc; calls = a .calls; accepted = a .accepted }) e
+    ap (λ (r : CallReport). record { head = r .head; «has_entry» = r .«has_entry»; entry = r .entry; «has_toc» = r .«has_toc»; toc = r .toc; calls = a .calls; accepted = a .accepted }) e
 
 -- ---- what the answer tells
 

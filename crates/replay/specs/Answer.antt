@@ -44,9 +44,9 @@ abbrev pub reportOfReplay : ReplayAnswer → ReplayReport
 reportOfReplay a =
     record {
       head = reportOfCall (a .last) .head;
-      hasentry = reportOfCall (a .last) .hasentry;
+      «has_entry» = reportOfCall (a .last) .«has_entry»;
       entry = reportOfCall (a .last) .entry;
-      hastoc = reportOfCall (a .last) .hastoc;
+      «has_toc» = reportOfCall (a .last) .«has_toc»;
       toc = reportOfCall (a .last) .toc;
       calls = a .calls;
       accepted = a .accepted;

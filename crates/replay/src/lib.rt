@@ -26,9 +26,9 @@ pub struct ReplayAnswer {
 #[repr(C)]
 pub struct ReplayReport {
     pub head: Head,
-    pub hasentry: u64,
+    pub has_entry: u64,
     pub entry: u64,
-    pub hastoc: u64,
+    pub has_toc: u64,
     pub toc: u64,
     pub calls: u64,
     pub accepted: u64,
@@ -186,9 +186,9 @@ pub fn report_replay(a: ReplayAnswer) -> ReplayReport
     let head = last.head;
     ReplayReport {
         head,
-        hasentry: last.hasentry,
+        has_entry: last.has_entry,
         entry: last.entry,
-        hastoc: last.hastoc,
+        has_toc: last.has_toc,
         toc: last.toc,
         calls: a.calls,
         accepted: a.accepted,
