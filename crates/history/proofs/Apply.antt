@@ -23,6 +23,15 @@ use Rattle.history.specs.Images.{Images, images, lengths, fields, Shifts
 
 -- ---- one field changed
 
+-- what is outside the field stays
+addAt-outside : (t u : Bool) (w off k : ℕ) (z : ℤ) (x : Images) → (t ≡ u → (k < off) ⊎ (off + w ≤ k))
+    → getD (imageOf u (addAt t w off z x)) k 0 ≡ getD (imageOf u x) k 0
+unfolding addAt
+addAt-outside true true w off k z x h = add-outside w off k z (x .text) (h refl)
+addAt-outside true false w off k z x h = refl
+addAt-outside false true w off k z x h = refl
+addAt-outside false false w off k z x h = add-outside w off k z (x .dat) (h refl)
+
 -- a field added to keeps both lengths
 addAt-lengths : (t : Bool) (w off : ℕ) (z : ℤ) (x : Images) → lengths (addAt t w off z x) ≡ lengths x
 unfolding addAt
@@ -61,15 +70,6 @@ addAt-apart : (t : Bool) (w off w′ off′ : ℕ) (a b : ℤ) (x : Images) → 
 unfolding addAt
 addAt-apart true w off w′ off′ a b x h = ap (λ (l : List ℕ). images l (x .dat)) (add-apart w off w′ off′ a b (x .text) h)
 addAt-apart false w off w′ off′ a b x h = ap (λ (l : List ℕ). images (x .text) l) (add-apart w off w′ off′ a b (x .dat) h)
-
--- what is outside the field stays
-addAt-outside : (t u : Bool) (w off k : ℕ) (z : ℤ) (x : Images) → (t ≡ u → (k < off) ⊎ (off + w ≤ k))
-    → getD (imageOf u (addAt t w off z x)) k 0 ≡ getD (imageOf u x) k 0
-unfolding addAt
-addAt-outside true true w off k z x h = add-outside w off k z (x .text) (h refl)
-addAt-outside true false w off k z x h = refl
-addAt-outside false true w off k z x h = refl
-addAt-outside false false w off k z x h = add-outside w off k z (x .dat) (h refl)
 
 -- ---- fields by their places
 
