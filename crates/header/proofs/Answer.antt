@@ -1,5 +1,5 @@
 -- The answer of opening, by the checks that were made. Assumes nothing.
-use mathlib.Core.Path.{_≡_, refl, ap}
+use mathlib.Core.Path.{_≡_, refl}
 use mathlib.Core.Bool.{true, false}
 use mathlib.Core.List.{List}
 use Prim.Native.Nat.{ℕ, _<_, _≤_}
@@ -18,7 +18,6 @@ use Rattle.refusal.specs.Refusal.{isRefused}
 use Rattle.refusal.proofs.Order.{go-on, stop}
 use Rattle.section.specs.declared.Section.{Section}
 use Rattle.file_header.specs.declared.FileHeader.{FileHeader}
-use Rattle.header.specs.declared.Opened.{Opened}
 use Rattle.file_tables.specs.declared.Scan.{Scan}
 use Rattle.header.specs.declared.Summary.{Summary}
 use Rattle.file_header.specs.Header.{headerAt, headerCheck}
