@@ -115,6 +115,17 @@ no-clash a b e = section (sameBool (a .text) (b .text)) refl
     section false s = otherSection (λ h. no-true (sym s ∙ same-refl (a .text) (b .text) h))
 
 module _ (r : ℕ → FieldPlace) (e : FieldPlace) where
+  -- no earlier one clashes
+  pub one-false : (n : ℕ) → meetsOne r e n ≡ false → (j : ℕ) → j < n → clashes (r j) e ≡ false
+  unfolding meetsOne
+  one-false zero h j l = absurd (omega arith)
+  one-false (suc n) h j l = go (λ k d. one-false n k j d) (clashes (r n) e) refl h (ℕ-discrete j n)
+    where
+      go : (meetsOne r e n ≡ false → j < n → clashes (r j) e ≡ false) → (t : Bool) → clashes (r n) e ≡ t → cond t true (meetsOne r e n) ≡ false → Dec (j ≡ n) → clashes (r j) e ≡ false
+      go rec true q k d = no-false k
+      go rec false q k (yes w) = ap (λ (x : ℕ). clashes (r x) e) w ∙ q
+      go rec false q k (no w) = rec k (omega arith)
+
   record One (n : ℕ) : Type 0 where
     other : ℕ
     below : other < n
@@ -128,17 +139,6 @@ module _ (r : ℕ → FieldPlace) (e : FieldPlace) where
       go : (meetsOne r e n ≡ true → One n) → (t : Bool) → clashes (r n) e ≡ t → cond t true (meetsOne r e n) ≡ true → One (suc n)
       go rec true q k = record { other = n; below = omega arith; clash = clash-true (r n) e q }
       go rec false q k = let w = rec k in record { other = w .other; below = omega (arith, w .below); clash = w .clash }
-
-  -- no earlier one clashes
-  pub one-false : (n : ℕ) → meetsOne r e n ≡ false → (j : ℕ) → j < n → clashes (r j) e ≡ false
-  unfolding meetsOne
-  one-false zero h j l = absurd (omega arith)
-  one-false (suc n) h j l = go (λ k d. one-false n k j d) (clashes (r n) e) refl h (ℕ-discrete j n)
-    where
-      go : (meetsOne r e n ≡ false → j < n → clashes (r j) e ≡ false) → (t : Bool) → clashes (r n) e ≡ t → cond t true (meetsOne r e n) ≡ false → Dec (j ≡ n) → clashes (r j) e ≡ false
-      go rec true q k d = no-false k
-      go rec false q k (yes w) = ap (λ (x : ℕ). clashes (r x) e) w ∙ q
-      go rec false q k (no w) = rec k (omega arith)
 
 module _ (r : ℕ → FieldPlace) where
   pub meets-true : (i : ℕ) → meets r i ≡ true → Meets r i

@@ -15,7 +15,7 @@ bytes-wide-requires : tie.Need-bytes-wide-requires
 bytes-wide-requires c κs = search needs
 
 add-if2 : tie.Need-add-if2
-add-if2 c = omega (arith, bytes-few (c .before .before .before .before .args .e .wide), c .before .before .before .before .pre .0, c .before .bytes-wide .ensures)
+add-if2 c = omega (arith, bytes-few (c .before .before .before .before .args .e .wide), c .before .before .before .before .pre .0, c .before .bytes-wide .ensures .0)
 
 returns-2 : tie.Need-returns-2
 returns-2 c = search needs

@@ -19,7 +19,7 @@ bytes-wide-requires : tie.Need-bytes-wide-requires Inv-loop μ-loop
 bytes-wide-requires c κs = search needs
 
 loop-holds : tie.Need-loop-holds Inv-loop μ-loop
-loop-holds c = (c .bytes-wide .ensures, omega arith, mark-none _ _ _ _)
+loop-holds c = (c .bytes-wide .ensures .0, omega arith, mark-none _ _ _ _)
 
 code-of-requires : tie.Need-code-of-requires Inv-loop μ-loop
 code-of-requires c κs = omega (arith, bytes-few (c .before .before .before .before .args .wide), c .before .loop .inv .0)
