@@ -12,8 +12,8 @@ use Rattle.update.specs.Update.{Apart, Bytes}
 use Rattle.update.proofs.Laws.{length-add, add-add, add-apart, add-zero, add-outside}
 use Rattle.relocation.specs.declared.FieldPlace.{FieldPlace}
 use Rattle.relocation.specs.Relocation.{bytesWide}
-use Rattle.clash.specs.Overlap.{Compatible}
-use Rattle.clash.specs.Overlap.Compatible.{otherSection, same, before, after}
+use Rattle.field_overlap.specs.Overlap.{Compatible}
+use Rattle.field_overlap.specs.Overlap.Compatible.{otherSection, same, before, after}
 use Rattle.history.specs.declared.Relocation.{Relocation}
 use Rattle.book.specs.Machine.{sum}
 use Rattle.book.specs.Entries as entries

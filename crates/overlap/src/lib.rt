@@ -4,7 +4,7 @@ ghost use Prim.Native.Nat.{_+_, _≤_, _<_};
 ghost use lib.ListN.{length};
 ghost use Rattle.format.specs.Limit.{fileLimit};
 ghost use Rattle.relocation.specs.Relocation.{placeAt};
-ghost use Rattle.clash.specs.Overlap.{sameBool, First, Readable};
+ghost use Rattle.field_overlap.specs.Overlap.{sameBool, First, Readable};
 ghost use Rattle.overlap.specs.Cells.{code, ByteOut, MarkOut, Zeros, EntryOut, LowerOut, PassOut, SweepOut};
 use format::Format;
 use loader_header::LoaderTables;
@@ -206,7 +206,7 @@ pub fn first_overlap(file: &[u8], f: Format, p: Parts, t: LoaderTables, n: u64) 
     requires { ⌜ Readable (now file) f p t n ⌝ }
     ensures { λ r. ⌜ First (placeAt (now (file .entry)) f p t) n r ⌝ }
 {
-    if clash::are_ascending(file, f, p, t, n) {
+    if field_overlap::are_ascending(file, f, p, t, n) {
         return n;
     }
     sweep_windows(file, f, p, t, n)

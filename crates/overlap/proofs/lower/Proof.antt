@@ -1,6 +1,6 @@
 use native.Mathlib.Omega.{arith}
 use borrow.Author.Needs.{needs}
-use Rattle.clash.proofs.Readable.{bytes-few}
+use Rattle.field_overlap.proofs.Readable.{bytes-few}
 use Rattle.overlap.proofs.CellLaws.{lower-other}
 use Rattle.overlap.proofs.lower.Statement.{statement}
 use Rattle.overlap.proofs.lower.Tie as tie

@@ -2,7 +2,7 @@ use Prim.Native.Nat.{_-_, _≤_}
 use borrow.Author.Needs.{needs}
 use native.Mathlib.Omega.{arith}
 use mathlib.Core.Path.{_≡_, _∙_}
-use Rattle.clash.proofs.Readable.{bytes-few}
+use Rattle.field_overlap.proofs.Readable.{bytes-few}
 use Rattle.overlap.proofs.CellLaws.{mark-none, mark-turn, mark-hit, mark-last, byte-as}
 use Rattle.overlap.specs.Cells.{Marked, Free}
 use Rattle.relocation.specs.Relocation.{bytesWide}

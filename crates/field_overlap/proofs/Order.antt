@@ -7,11 +7,11 @@ use native.Mathlib.Decide.{ℕ-discrete}
 use native.Mathlib.Omega.{arith}
 use Rattle.relocation.specs.declared.FieldPlace.{FieldPlace}
 use Rattle.relocation.specs.Relocation.{bytesWide}
-use Rattle.clash.specs.declared.Extent.{Extent}
-use Rattle.clash.specs.declared.LastFields.{LastFields}
-use Rattle.clash.specs.Overlap.{Meets, First}
-use Rattle.clash.specs.Ascending.{extentOf, Follows, LastField, Ascending, StepOut}
-use Rattle.clash.proofs.Rule.{no-true, no-false}
+use Rattle.field_overlap.specs.declared.Extent.{Extent}
+use Rattle.field_overlap.specs.declared.LastFields.{LastFields}
+use Rattle.field_overlap.specs.Overlap.{Meets, First}
+use Rattle.field_overlap.specs.Ascending.{extentOf, Follows, LastField, Ascending, StepOut}
+use Rattle.field_overlap.proofs.Rule.{no-true, no-false}
 
 abbrev extent : ℕ → ℕ → Extent
 extent start end = record { start = start; end = end }
@@ -50,17 +50,17 @@ module _ (r : ℕ → FieldPlace) (i : ℕ) where
       go j l m (no d) = f .before j (omega arith) m
 
   module _ (t : Bool) (last : Extent) (l : LastField r t i last) where
-    -- a field that follows the last one of its section clashes with no earlier one
+    -- a field that follows the last one of its section overlaps with no earlier one
     no-meet : r i .text ≡ t → Follows last (extentOf (r i)) → Meets r i → ⊥
-    no-meet s h m = ⊎-elim (λ q. is-last q h) (λ q. before-last q h) (l .earlier (m .other) (m .earlier) (m .clash .section ∙ s))
+    no-meet s h m = ⊎-elim (λ q. is-last q h) (λ q. before-last q h) (l .earlier (m .other) (m .earlier) (m .overlap .section ∙ s))
       where
         is-last : extentOf (r (m .other)) ≡ last → Follows last (extentOf (r i)) → ⊥
-        is-last q (inl a) = omega (arith, end-same q, m .clash .inA, m .clash .inB)
-        is-last q (inr a) = m .clash .differ (extent-field (r (m .other)) (r i) (q ∙ sym a))
+        is-last q (inl a) = omega (arith, end-same q, m .overlap .inA, m .overlap .inB)
+        is-last q (inr a) = m .overlap .differ (extent-field (r (m .other)) (r i) (q ∙ sym a))
 
         before-last : r (m .other) .offset + bytesWide (r (m .other) .wide) ≤ last .start → Follows last (extentOf (r i)) → ⊥
-        before-last q (inl a) = omega (arith, l .ordered, m .clash .inA, m .clash .inB)
-        before-last q (inr a) = omega (arith, start-same a, m .clash .inA, m .clash .inB)
+        before-last q (inl a) = omega (arith, l .ordered, m .overlap .inA, m .overlap .inB)
+        before-last q (inr a) = omega (arith, start-same a, m .overlap .inA, m .overlap .inB)
 
     -- it is then the last one
     last-next : Follows last (extentOf (r i)) → LastField r t (i + 1) (extentOf (r i))
@@ -96,8 +96,8 @@ none-yet r =
     }
 
 -- past the last entry
-pub none-clash : (r : ℕ → FieldPlace) (i n : ℕ) (last : LastFields) → i ≤ n → n ≤ i → Ascending r i last → First r n n
-none-clash r i n last h k a = let e : i ≡ n = omega arith in subst (λ (x : ℕ). First r x x) e (a .none)
+pub none-overlap : (r : ℕ → FieldPlace) (i n : ℕ) (last : LastFields) → i ≤ n → n ≤ i → Ascending r i last → First r n n
+none-overlap r i n last h k a = let e : i ≡ n = omega arith in subst (λ (x : ℕ). First r x x) e (a .none)
 
 module _ (last : LastFields) (e : FieldPlace) where
   text-next : e .text ≡ true → Follows (last .text) (extentOf e) → StepOut last e (record { text = extentOf e; «data» = last .«data» })

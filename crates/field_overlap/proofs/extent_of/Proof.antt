@@ -1,8 +1,8 @@
 use native.Mathlib.Omega.{arith}
-use Rattle.clash.proofs.Readable.{bytes-few}
+use Rattle.field_overlap.proofs.Readable.{bytes-few}
 use borrow.Author.Needs.{needs}
-use Rattle.clash.proofs.extent_of.Statement.{statement}
-use Rattle.clash.proofs.extent_of.Tie as tie
+use Rattle.field_overlap.proofs.extent_of.Statement.{statement}
+use Rattle.field_overlap.proofs.extent_of.Tie as tie
 
 bytes-wide-requires : tie.Need-bytes-wide-requires
 bytes-wide-requires c κs = search needs

@@ -1,7 +1,7 @@
-use Rattle.clash.proofs.Order.{text-step, data-step}
+use Rattle.field_overlap.proofs.Order.{text-step, data-step}
 use borrow.Author.Needs.{needs}
-use Rattle.clash.proofs.step.Statement.{statement}
-use Rattle.clash.proofs.step.Tie as tie
+use Rattle.field_overlap.proofs.step.Statement.{statement}
+use Rattle.field_overlap.proofs.step.Tie as tie
 
 extent-of-requires : tie.Need-extent-of-requires
 extent-of-requires c κs = search needs

@@ -1,9 +1,9 @@
 use mathlib.Core.Logic.{inl, inr}
 use borrow.Author.Tests.{eqb-true}
-use Rattle.clash.proofs.Order.{one-extent}
-use Rattle.clash.proofs.Rule.{no-true}
-use Rattle.clash.proofs.follows.Statement.{statement}
-use Rattle.clash.proofs.follows.Tie as tie
+use Rattle.field_overlap.proofs.Order.{one-extent}
+use Rattle.field_overlap.proofs.Rule.{no-true}
+use Rattle.field_overlap.proofs.follows.Statement.{statement}
+use Rattle.field_overlap.proofs.follows.Tie as tie
 
 returns : tie.Need-returns
 returns c = λ h. inl (c .if1 .taken)

@@ -22,41 +22,43 @@ abbrev pub sameField : FieldPlace → FieldPlace → Bool
 sameField a b = eqb (a .offset) (b .offset) && sameBool (a .wide) (b .wide)
 
 -- fields of one section that share a byte and are not the same field
-unfoldable pub clashes : FieldPlace → FieldPlace → Bool
-clashes a b =
+unfoldable pub overlaps : FieldPlace → FieldPlace → Bool
+overlaps a b =
     sameBool (a .text) (b .text)
     && (ltb (a .offset) (b .offset + bytesWide (b .wide)) && (ltb (b .offset) (a .offset + bytesWide (a .wide)) && not (sameField a b)))
 
--- field e clashes with one of the first n entries
+-- field e overlaps with one of the first n entries
 unfoldable pub meetsOne : (ℕ → FieldPlace) → FieldPlace → ℕ → Bool
 meetsOne r e zero = false
-meetsOne r e (suc n) = cond (clashes (r n) e) true (meetsOne r e n)
+meetsOne r e (suc n) = cond (overlaps (r n) e) true (meetsOne r e n)
 
--- entry i clashes with an earlier one
+-- entry i overlaps with an earlier one
 unfoldable pub meets : (ℕ → FieldPlace) → ℕ → Bool
 meets r i = meetsOne r (r i) i
 
 -- ---- the same as a statement
 
 -- two fields of one section that share a byte and are not the same field
-pub record Clash (a b : FieldPlace) : Type 0 where
+pub record Overlapping (a b : FieldPlace) : Type 0 where
   pub section : a .text ≡ b .text
   pub byte : ℕ
   pub inA : (a .offset ≤ byte) × (byte < a .offset + bytesWide (a .wide))
   pub inB : (b .offset ≤ byte) × (byte < b .offset + bytesWide (b .wide))
   pub differ : (a .offset ≡ b .offset) × (a .wide ≡ b .wide) → ⊥
 
--- entry i clashes with an earlier one
+-- entry i overlaps with an earlier one
 pub record Meets (r : ℕ → FieldPlace) (i : ℕ) : Type 0 where
   pub other : ℕ
   pub earlier : other < i
-  pub clash : Clash (r other) (r i)
+  pub overlap : Overlapping (r other) (r i)
 
--- x is the first of n entries that clashes with an earlier one, or n
+-- x is the first of n entries that overlaps with an earlier one, or n
 pub record First (r : ℕ → FieldPlace) (n x : ℕ) : Type 0 where
   pub within : x ≤ n
   pub before : (i : ℕ) → i < x → Meets r i → ⊥
   pub here : x < n → Meets r x
+
+-- ---- for the contracts of the searches and the crates above
 
 -- two fields of different sections, or the same field, or fields that share no byte
 pub data Compatible (a b : FieldPlace) : Type 0 where

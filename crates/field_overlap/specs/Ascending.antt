@@ -1,13 +1,13 @@
--- Fields in ascending order: each is the last field of its section again, or starts at or after its end.
+-- Serves internal contracts only: the pass over fields in ascending order. Each is the last field of its section again, or starts at or after its end.
 use mathlib.Core.Path.{_≡_}
 use mathlib.Core.Logic.{_⊎_}
 use mathlib.Core.Bool.{Bool, true, false}
 use Prim.Native.Nat.{ℕ, _+_, _≤_, _<_}
 use Rattle.relocation.specs.declared.FieldPlace.{FieldPlace}
 use Rattle.relocation.specs.Relocation.{bytesWide}
-use Rattle.clash.specs.declared.Extent.{Extent}
-use Rattle.clash.specs.declared.LastFields.{LastFields}
-use Rattle.clash.specs.Overlap.{First}
+use Rattle.field_overlap.specs.declared.Extent.{Extent}
+use Rattle.field_overlap.specs.declared.LastFields.{LastFields}
+use Rattle.field_overlap.specs.Overlap.{First}
 
 abbrev pub extentOf : FieldPlace → Extent
 extentOf e = record { start = e .offset; end = e .offset + bytesWide (e .wide) }
@@ -21,7 +21,7 @@ pub record LastField (r : ℕ → FieldPlace) (t : Bool) (i : ℕ) (last : Exten
   pub ordered : last .start ≤ last .end
   pub earlier : (j : ℕ) → j < i → r j .text ≡ t → (extentOf (r j) ≡ last) ⊎ (r j .offset + bytesWide (r j .wide) ≤ last .start)
 
--- no two of the first i fields clash, and last has the last ones
+-- no two of the first i fields overlap, and last has the last ones
 pub record Ascending (r : ℕ → FieldPlace) (i : ℕ) (last : LastFields) : Type 0 where
   pub none : First r i i
   pub inText : LastField r true i (last .text)

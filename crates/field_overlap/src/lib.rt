@@ -1,11 +1,11 @@
-// Fields that clash: the rule of OVERLAP, and one pass that shows of fields in ascending order that no two clash.
+// Fields that overlap: the rule of OVERLAP, and one pass that shows of fields in ascending order that no two overlap.
 ghost use mathlib.Core.Path.{_≡_};
 ghost use mathlib.Core.Bool.{true};
 ghost use Prim.Native.Nat.{_≤_};
 ghost use Rattle.format.specs.Limit.{fileLimit};
 ghost use Rattle.relocation.specs.Relocation.{placeAt};
-ghost use Rattle.clash.specs.Overlap.{First, Readable};
-ghost use Rattle.clash.specs.Ascending.{extentOf, Follows, StepOut};
+ghost use Rattle.field_overlap.specs.Overlap.{First, Readable};
+ghost use Rattle.field_overlap.specs.Ascending.{extentOf, Follows, StepOut};
 use format::Format;
 use loader_header::LoaderTables;
 use parts::Parts;
@@ -73,7 +73,7 @@ fn step(last: LastFields, e: FieldPlace) -> StepAnswer
 }
 
 // Whether each of `n` entries has the field of the last one before it in its section, or one that starts at or after
-// that one's end. Then no two clash; otherwise two may.
+// that one's end. Then no two overlap; otherwise two may.
 pub fn are_ascending(file: &[u8], f: Format, p: Parts, t: LoaderTables, n: u64) -> bool
     requires { ⌜ Readable (now file) f p t n ⌝ }
     ensures { λ r. ⌜ (r ≡ true → First (placeAt (now (file .entry)) f p t) n n) ⌝ }

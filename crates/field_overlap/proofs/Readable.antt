@@ -9,7 +9,7 @@ use Rattle.parts.specs.declared.Parts.{Parts}
 use Rattle.loader_header.specs.declared.LoaderTables.{LoaderTables}
 use Rattle.relocation.specs.declared.FieldPlace.{FieldPlace}
 use Rattle.relocation.specs.Relocation.{bytesWide, placeAt}
-use Rattle.clash.specs.Overlap.{Readable}
+use Rattle.field_overlap.specs.Overlap.{Readable}
 
 pub bytes-few : (b : Bool) → bytesWide b ≤ 8
 bytes-few true = omega arith

@@ -2,12 +2,12 @@ use Prim.Native.Nat.{_-_, _≤_}
 use native.Mathlib.Omega.{arith}
 use borrow.Author.Tests.{not-false}
 use Rattle.relocation.specs.Relocation.{placeAt}
-use Rattle.clash.specs.Ascending.{Ascending}
-use Rattle.clash.proofs.Order.{none-yet, none-clash}
-use Rattle.clash.proofs.Readable.{offset-small}
-use Rattle.clash.proofs.Rule.{no-true}
-use Rattle.clash.proofs.are_ascending.Statement.{statement}
-use Rattle.clash.proofs.are_ascending.Tie as tie
+use Rattle.field_overlap.specs.Ascending.{Ascending}
+use Rattle.field_overlap.proofs.Order.{none-yet, none-overlap}
+use Rattle.field_overlap.proofs.Readable.{offset-small}
+use Rattle.field_overlap.proofs.Rule.{no-true}
+use Rattle.field_overlap.proofs.are_ascending.Statement.{statement}
+use Rattle.field_overlap.proofs.are_ascending.Tie as tie
 
 abbrev Inv-loop : tie.InvT-loop
 Inv-loop file f p t n last₀ i₀ last i = (i ≤ n) × Ascending (placeAt file f p t) i last
@@ -37,7 +37,7 @@ loop-again : tie.Need-loop-again Inv-loop μ-loop
 loop-again c = (omega (arith, c .before .before .before .before .before .loop-test .taken), c .before .before .before .step .ensures (not-false _ (c .before .if1 .left)) _ _ (c .before .before .before .before .place-at .ensures) (c .before .before .before .before .before .before .loop .inv .1))
 
 returns-2 : tie.Need-returns-2 Inv-loop μ-loop
-returns-2 c = λ h. none-clash _ _ _ _ (c .before .loop .inv .0) (c .loop-test .left) (c .before .loop .inv .1)
+returns-2 c = λ h. none-overlap _ _ _ _ (c .before .loop .inv .0) (c .loop-test .left) (c .before .loop .inv .1)
 
 pub are-ascending-spec : {M : Type 1} → statement M
 are-ascending-spec =
