@@ -18,7 +18,7 @@
  * as it was. Lent memory of length 0 may have a null pointer.
  *
  * Every answer starts with `number` and `item`. Number 0: accepted. Otherwise the call is refused, the number says why,
- * the item what it is about, and every other field is 0.
+ * the item what it is about, and every other field is 0, but for the counts of xcoff_replay.
  *
  *   number       why                                                       item
  *    1 SHORT     file or header area ends early                            0
@@ -265,10 +265,26 @@ xcoff_call_answer xcoff_move(const uint8_t *file, size_t length, uint64_t from_t
 /*
  * Runs a list of calls, encoded as numbers: 0 and a plan is a build, any other number and two plans a move; a plan is
  * its text address, its data address, how many addresses its list has, and those. What is cut short ends the list; a
- * call that is refused changes nothing and does not end it. Nothing is answered: the buffers hold what the calls leave.
+ * call that is refused changes nothing and does not end it. The buffers hold what the calls leave.
+ *
+ * The answer is the last call's own, and how many calls were run and how many of those were accepted; a refusal of the
+ * last call leaves the two counts as they are. If both are the number of calls that you encoded, every call was run and
+ * accepted. Fewer calls: the list is cut short. Fewer accepted than calls: some were refused, also where number is 0,
+ * which speaks of the last call alone. Where no call was run every field is 0.
  */
-void xcoff_replay(const uint8_t *file, size_t length, const uint64_t *script, size_t numbers, uint8_t *text,
-                  size_t text_length, uint8_t *data, size_t data_length);
+typedef struct xcoff_replay_answer {
+    uint64_t number;
+    uint64_t item;
+    uint64_t has_entry;
+    uint64_t entry;
+    uint64_t has_toc;
+    uint64_t toc;
+    uint64_t calls;
+    uint64_t accepted;
+} xcoff_replay_answer;
+
+xcoff_replay_answer xcoff_replay(const uint8_t *file, size_t length, const uint64_t *script, size_t numbers, uint8_t *text,
+                                 size_t text_length, uint8_t *data, size_t data_length);
 
 /*
  * The images of an XCOFF32 module as Motorola S-records: S3 lines of 32 data bytes, fewer only in an image's last line,

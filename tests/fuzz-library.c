@@ -454,6 +454,7 @@ static void images(xcoff_module_answer m)
     uint8_t *text, *data, *text2, *data2;
     plan recorded, other;
     xcoff_call_answer a, b;
+    xcoff_replay_answer r;
     xcoff_section_answer s;
     uint64_t *script;
     step = "images";
@@ -552,8 +553,15 @@ static void images(xcoff_module_answer m)
         }
         fill(text2, tl);
         fill(data2, dl);
-        xcoff_replay(file, length, script, 2 + 3 * (3 + places), text2, tl, data2, dl);
+        r = xcoff_replay(file, length, script, 1 + 3 * (3 + places), text2, tl, data2, dl);
+        a = build(recorded, text, tl, data, dl);
+        PROMISE(r.calls == 1 && r.accepted == 1 && memcmp(&r, &a, sizeof a) == 0);
+        PROMISE(memcmp(text, text2, tl) == 0 && memcmp(data, data2, dl) == 0);
+        fill(text2, tl);
+        fill(data2, dl);
+        r = xcoff_replay(file, length, script, 2 + 3 * (3 + places), text2, tl, data2, dl);
         a = move(recorded, other, text, tl, data, dl);
+        PROMISE(r.calls == 2 && r.accepted == 2 && memcmp(&r, &a, sizeof a) == 0);
         PROMISE(memcmp(text, text2, tl) == 0 && memcmp(data, data2, dl) == 0);
         a = move(other, recorded, text, tl, data, dl);
         PROMISE(a.number == 0);
@@ -765,13 +773,13 @@ static void records(xcoff_module_answer m)
     records_of(m, records_plan(m, 1 + (int)(random_number() % 3)));
 }
 
-/* The input as a sheet, a sheet of its own, and the input as a list of calls. */
-static void sheets(xcoff_module_answer m)
+/* The input as a sheet, and a sheet of its own. */
+static void sheets(void)
 {
     xcoff_sheet_answer h = xcoff_sheet_head(file, length), r;
     xcoff_verdict v;
     uint64_t *list, *again;
-    uint8_t *sheet, *text, *data;
+    uint8_t *sheet;
     size_t n, k;
     step = "sheets";
     ANSWER(h);
@@ -811,26 +819,48 @@ static void sheets(xcoff_module_answer m)
     r = xcoff_read_sheet(sheet, 20 + 8 * n, again, n);
     PROMISE(v.number == 0 && r.number == 0 && r.text == state && r.data == ~state && r.count == n);
     PROMISE(memcmp(list, again, 8 * n) == 0);
+}
 
-    step = "the input as a list of calls";
-    if (m.image < HEAVY) {
-        size_t tl = m.number == 0 ? m.text.size : 50, dl = m.number == 0 ? m.image : 70;
-        uint64_t *script = lend(script_area, 8 * (length / 8));
-        memcpy(script, file, 8 * (length / 8));
-        for (k = 0; k + 4 < length / 8 && k < 5; k++)
-            script[k] %= 5;
-        text = lend(text_area, tl);
-        data = lend(data_area, dl);
-        fill(text, tl);
-        fill(data, dl);
-        xcoff_replay(file, length, script, length / 8, text, tl, data, dl);
-        if (m.number != 0) {
-            untouched(text, tl);
-            untouched(data, dl);
+/* How many calls a list of n numbers has, up to where it is cut short. */
+static uint64_t calls_in(const uint64_t *script, size_t n)
+{
+    uint64_t calls = 0;
+    size_t at = 0;
+    for (;;) {
+        int plans = at < n && script[at] != 0 ? 2 : 1;
+        for (at++; plans > 0; plans--) {
+            if (at + 3 > n || script[at + 2] > n - (at + 3))
+                return calls;
+            at += 3 + script[at + 2];
         }
-        note(text, tl);
-        note(data, dl);
+        calls++;
     }
+}
+
+static void input_as_calls(xcoff_module_answer m)
+{
+    size_t tl = m.number == 0 ? m.text.size : 50, dl = m.number == 0 ? m.image : 70, n = length / 8, k;
+    uint64_t *script = lend(script_area, 8 * n);
+    uint8_t *text = lend(text_area, tl), *data = lend(data_area, dl);
+    xcoff_replay_answer r;
+    step = "the input as a list of calls";
+    memcpy(script, file, 8 * n);
+    for (k = 0; k + 4 < n && k < 5; k++)
+        script[k] %= 5;
+    fill(text, tl);
+    fill(data, dl);
+    r = xcoff_replay(file, length, script, n, text, tl, data, dl);
+    PROMISE(r.calls == calls_in(script, n) && r.accepted <= r.calls && r.number <= 24);
+    PROMISE(r.calls != 0 || r.number == 0);
+    PROMISE(r.number == 0 || (r.accepted < r.calls && !r.has_entry && !r.entry && !r.has_toc && !r.toc));
+    if (m.number != 0) {
+        PROMISE(r.accepted == 0 && (r.calls == 0 || REFUSED(r, m.number, m.item)));
+        untouched(text, tl);
+        untouched(data, dl);
+    }
+    NOTE(r);
+    note(text, tl);
+    note(data, dl);
 }
 
 static void nothing(void)
@@ -867,7 +897,9 @@ static uint64_t run(const uint8_t *input, size_t n)
         tables(m);
         images(m);
         records(m);
-        sheets(m);
+        sheets();
+        if (m.image < HEAVY)
+            input_as_calls(m);
         step = "the end";
         PROMISE(memcmp(copy, input, n) == 0);
         both[at_the_end] = digest;

@@ -131,6 +131,14 @@ pub struct Call {
     pub toc: u64,
 }
 
+/// The last call's answer has the fields of [`Call`] in their order.
+#[repr(C)]
+pub struct Replay {
+    pub last: Call,
+    pub calls: u64,
+    pub accepted: u64,
+}
+
 #[repr(C)]
 pub struct Length {
     pub number: u64,
@@ -199,7 +207,7 @@ extern "C" {
         text_length: usize,
         data: *mut u8,
         data_length: usize,
-    );
+    ) -> Replay;
     fn xcoff_records_length(
         file: *const u8,
         length: usize,
@@ -371,7 +379,7 @@ pub fn move_images(
     }
 }
 
-pub fn replay(file: &[u8], script: &[u64], text: &mut [u8], data: &mut [u8]) {
+pub fn replay(file: &[u8], script: &[u64], text: &mut [u8], data: &mut [u8]) -> Replay {
     unsafe {
         xcoff_replay(
             file.as_ptr(),

@@ -25,6 +25,17 @@ pub enum Call {
     Move(Plan, Plan),
 }
 
+/// What [`replay`] answers.
+#[derive(Clone, Copy, Debug, PartialEq, Eq)]
+pub struct Replayed {
+    /// Calls run: all that the list has.
+    pub calls: u64,
+    /// Those of them that were accepted.
+    pub accepted: u64,
+    /// The last call's own answer. Where no call was run it is accepted, with no addresses.
+    pub last: Result<Reached, Refusal>,
+}
+
 /// Builds the images of the module in `file` for a plan. A refusal changes no byte of the buffers.
 pub fn build_images(
     file: &[u8],
@@ -60,8 +71,9 @@ pub fn move_images(
     ))
 }
 
-/// Runs a list of calls on the two buffers. A call that is refused changes nothing and does not end the list.
-pub fn replay(file: &[u8], calls: &[Call], text: &mut [u8], data: &mut [u8]) {
+/// Runs a list of calls on the two buffers. A call that is refused changes nothing and does not end the list; how many
+/// were accepted is in the answer.
+pub fn replay(file: &[u8], calls: &[Call], text: &mut [u8], data: &mut [u8]) -> Replayed {
     let mut script = Vec::new();
     for call in calls {
         match call {
@@ -76,7 +88,12 @@ pub fn replay(file: &[u8], calls: &[Call], text: &mut [u8], data: &mut [u8]) {
             }
         }
     }
-    ffi::replay(file, &script, text, data)
+    let run = ffi::replay(file, &script, text, data);
+    Replayed {
+        calls: run.calls,
+        accepted: run.accepted,
+        last: reached(run.last),
+    }
 }
 
 /// Reads a plan sheet's two addresses, and its list into exactly as many places. A refusal leaves the list as it was.

@@ -13,7 +13,7 @@ mod tables;
 
 pub use image::{
     build_images, move_images, read_sheet, read_sheet_into, replay, write_sheet, write_sheet_into,
-    Call, Plan, Reached,
+    Call, Plan, Reached, Replayed,
 };
 pub use records::{read_records, records_length, write_records, write_records_into};
 pub use refusal::Refusal;

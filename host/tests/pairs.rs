@@ -3,7 +3,7 @@
 use std::path::PathBuf;
 use xcoff::{
     build_images, loader_symbol, module, move_images, read_sheet, replay, section, write_sheet,
-    Call, Module, Plan,
+    Call, Module, Plan, Reached, Refusal, Replayed,
 };
 
 struct Linked {
@@ -115,11 +115,53 @@ fn a_list_of_calls_reaches_the_last_plan() {
         ];
         let mut text = vec![0x11; a.text.len()];
         let mut data = vec![0x22; a.data.len()];
-        replay(&a.file, &calls, &mut text, &mut data);
+        let all = replay(&a.file, &calls, &mut text, &mut data);
+        assert_eq!((all.calls, all.accepted), (5, 4), "{name}");
+        let last = all.last.unwrap();
+        assert_eq!(last.entry, b.module.entry.map(|e| e.address), "{name}");
+        assert_eq!(last.toc, b.module.toc.map(|t| t.address), "{name}");
         assert_eq!(data, b.data, "{name}: data");
         if !has_fixed_text(&name) {
             assert_eq!(text, b.text, "{name}: text");
         }
+    }
+}
+
+#[test]
+fn a_list_of_calls_answers_for_its_last_call_and_counts_them() {
+    let none = Reached {
+        entry: None,
+        toc: None,
+    };
+    let blank = Replayed {
+        calls: 0,
+        accepted: 0,
+        last: Ok(none),
+    };
+    for name in names() {
+        let a = linked(&name);
+        let mut short = a.plan.clone();
+        short.list.push(0);
+        let (good, bad) = (Call::Build(a.plan.clone()), Call::Build(short));
+        let mut text = vec![0x11; a.text.len()];
+        let mut data = vec![0x22; a.data.len()];
+        let mut run = |calls: &[Call]| replay(&a.file, calls, &mut text, &mut data);
+        let refused = Err(Refusal {
+            number: 20,
+            item: 2,
+        });
+        assert_eq!(run(&[]), blank, "{name}: no call");
+        let all = run(&[bad.clone(), bad.clone()]);
+        assert_eq!((all.calls, all.accepted), (2, 0), "{name}: all refused");
+        assert_eq!(all.last, refused, "{name}: all refused");
+        let all = run(&[good.clone(), good.clone(), bad.clone()]);
+        assert_eq!((all.calls, all.accepted), (3, 2), "{name}: last refused");
+        assert_eq!(all.last, refused, "{name}: last refused");
+        let all = run(&[bad, good]);
+        assert_eq!((all.calls, all.accepted), (2, 1), "{name}: first refused");
+        let last = all.last.unwrap();
+        assert_eq!(last.entry, a.module.entry.map(|e| e.address), "{name}");
+        assert_eq!(last.toc, a.module.toc.map(|t| t.address), "{name}");
     }
 }
 

@@ -617,7 +617,9 @@ fn check_images(name: &str, file: &[u8], m: &Module) {
         xcoff::Call::Build(q.clone()),
         xcoff::Call::Move(q, p.clone()),
     ];
-    xcoff::replay(file, &calls, &mut text, &mut data);
+    let all = xcoff::replay(file, &calls, &mut text, &mut data);
+    assert_eq!((all.calls, all.accepted), (2, 2), "{name}: replayed");
+    assert_eq!(all.last, Ok(built), "{name}: replayed");
     assert!(
         [&text, &data] == m.images(file, &p).each_ref(),
         "{name}: replayed"

@@ -285,12 +285,13 @@ fn plan(words: &mut Words) -> Plan {
 }
 
 /// Builds and moves, one after the other on the same buffers: answer and buffers after each, a dot for one that is as
-/// before. A replay of the whole list must leave the same.
+/// before. A replay of the whole list must leave the same, and answer for these answers.
 fn calls(file: &[u8], words: &mut Words) -> String {
     let before = (bytes(next(words)), bytes(next(words)));
     let (mut text, mut data) = before.clone();
     let mut list = Vec::new();
     let mut parts = Vec::new();
+    let mut answers = Vec::new();
     while let Some(word) = words.next() {
         let call = match word {
             "build" => Call::Build(plan(words)),
@@ -301,6 +302,7 @@ fn calls(file: &[u8], words: &mut Words) -> String {
             Call::Build(p) => xcoff::build_images(file, p, &mut text, &mut data),
             Call::Move(p, q) => xcoff::move_images(file, p, q, &mut text, &mut data),
         };
+        answers.push(answer);
         let answer = given(answer.map(reached));
         parts.push(format!(
             "{answer} / {} {}",
@@ -310,7 +312,10 @@ fn calls(file: &[u8], words: &mut Words) -> String {
         list.push(call);
     }
     let (mut replayed_text, mut replayed_data) = before;
-    xcoff::replay(file, &list, &mut replayed_text, &mut replayed_data);
+    let all = xcoff::replay(file, &list, &mut replayed_text, &mut replayed_data);
+    let accepted = answers.iter().filter(|answer| answer.is_ok()).count() as u64;
+    assert_eq!((all.calls, all.accepted), (list.len() as u64, accepted));
+    assert_eq!(all.last, *answers.last().expect("a call"));
     assert!(
         replayed_text == text && replayed_data == data,
         "a replay leaves something else"

@@ -75,11 +75,43 @@ static void module(void)
     EXPECT(is(xcoff_import_member(file, length, 2), "shr_64.o"));
 }
 
+/* A build at the recorded addresses and a move by 1000 hex; the list cut short, with all or the last refused, and empty. */
+static void list_of_calls(const uint64_t *list, const uint8_t *built_text, const uint8_t *built_data)
+{
+    static uint8_t text[0xa0], data[0xa0];
+    uint64_t script[1 + 12 + 1 + 24];
+    xcoff_replay_answer r;
+    size_t i;
+    script[0] = 0;
+    script[13] = 1;
+    for (i = 0; i < 3; i++) {
+        uint64_t *plan = script + (i == 0 ? 1 : i == 1 ? 14 : 26);
+        plan[0] = 0x10000100 + (i == 2 ? 0x1000 : 0);
+        plan[1] = 0x200001a0 + (i == 2 ? 0x1000 : 0);
+        plan[2] = 9;
+        memcpy(plan + 3, list, 9 * sizeof list[0]);
+    }
+    r = xcoff_replay(file, length, script, 38, text, sizeof text, data, sizeof data);
+    EXPECT(r.number == 0 && r.item == 0 && r.calls == 2 && r.accepted == 2);
+    EXPECT(r.has_entry == 1 && r.entry == 0x200011d0 && r.has_toc == 1 && r.toc == 0x200011e0);
+    EXPECT(memcmp(text, built_text, sizeof text) == 0 && memcmp(data, built_data, sizeof data) == 0);
+    r = xcoff_replay(file, length, script, 37, text, sizeof text, data, sizeof data);
+    EXPECT(r.number == 0 && r.calls == 1 && r.accepted == 1 && r.entry == 0x200001d0 && r.toc == 0x200001e0);
+    r = xcoff_replay(file, length, script, 38, text, sizeof text - 1, data, sizeof data);
+    EXPECT(refused(r.number, r.item, 20, 0) && r.calls == 2 && r.accepted == 0);
+    EXPECT(r.has_entry == 0 && r.entry == 0 && r.has_toc == 0 && r.toc == 0);
+    script[26] = UINT64_MAX;
+    r = xcoff_replay(file, length, script, 38, text, sizeof text, data, sizeof data);
+    EXPECT(refused(r.number, r.item, 19, 0) && r.calls == 2 && r.accepted == 1 && r.has_entry == 0);
+    r = xcoff_replay(file, length, NULL, 0, text, sizeof text, data, sizeof data);
+    EXPECT(r.number == 0 && r.item == 0 && r.has_entry == 0 && r.has_toc == 0 && r.calls == 0 && r.accepted == 0);
+}
+
 /* Built at the recorded addresses, moved by 1000 hex, and both at once by a list of calls; then the plan's sheet. */
 static void images(void)
 {
-    static uint8_t text[0xa0], data[0xa0], text2[0xa0], data2[0xa0], sheet[20 + 8 * 9];
-    uint64_t list[9], back[9], script[1 + 12 + 1 + 24];
+    static uint8_t text[0xa0], data[0xa0], sheet[20 + 8 * 9];
+    uint64_t list[9], back[9];
     xcoff_call_answer b, m;
     xcoff_sheet_answer s;
     size_t i;
@@ -94,17 +126,7 @@ static void images(void)
                    data, sizeof data);
     EXPECT(refused(m.number, m.item, 20, 0) && m.has_entry == 0);
 
-    script[0] = 0;
-    script[13] = 1;
-    for (i = 0; i < 3; i++) {
-        uint64_t *plan = script + (i == 0 ? 1 : i == 1 ? 14 : 26);
-        plan[0] = 0x10000100 + (i == 2 ? 0x1000 : 0);
-        plan[1] = 0x200001a0 + (i == 2 ? 0x1000 : 0);
-        plan[2] = 9;
-        memcpy(plan + 3, list, sizeof list);
-    }
-    xcoff_replay(file, length, script, sizeof script / sizeof script[0], text2, sizeof text2, data2, sizeof data2);
-    EXPECT(memcmp(text, text2, sizeof text) == 0 && memcmp(data, data2, sizeof data) == 0);
+    list_of_calls(list, text, data);
 
     EXPECT(xcoff_write_sheet(1, 2, list, 9, sheet, sizeof sheet).number == 0);
     s = xcoff_sheet_head(sheet, sizeof sheet);

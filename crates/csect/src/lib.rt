@@ -3,9 +3,7 @@ ghost use mathlib.Core.Path.{_≡_};
 ghost use Prim.Native.Nat.{_+_, _%_, _≤_};
 ghost use lib.ListN.{length};
 ghost use Rattle.format.specs.Layout.{symbolLength};
-ghost use Rattle.format.specs.Range.{bytesOf};
-ghost use Rattle.word.specs.Zero.{ZeroEnd};
-ghost use Rattle.symbol.specs.Entry.{TablesInside};
+ghost use Rattle.symbol.specs.Entry.{OpenTables};
 ghost use Rattle.csect.specs.Csect.{lengthAt, auxAt, carriesCsect, isMarked, typeOf, isMappingClass, isMapped, typedCsect, ownAfter};
 ghost use Rattle.symbol.specs.Symbol.{symbolIn};
 use format::Format;
@@ -170,11 +168,11 @@ fn judge_csect(f: Format, i: SymbolIndex, s: Symbol, a: CsectAux) -> CsectAnswer
 }
 
 // The symbol at `i` and its own csect entry: the symbol's refusal is handed on.
-pub fn own_csect(file: &[u8], t: Tables, ends: u64, i: SymbolIndex) -> CsectAnswer
-    requires { ⌜ TablesInside (now file) t × ZeroEnd (bytesOf (now file) (t .strings)) ends ⌝ }
+pub fn own_csect(file: &[u8], t: Tables, i: SymbolIndex) -> CsectAnswer
+    requires { ⌜ OpenTables (now file) t ⌝ }
     ensures { λ r. ⌜ r ≡ ownAfter (now (file .entry)) t i (symbolIn (now (file .entry)) t i) ⌝ }
 {
-    let answer = symbol::symbol_in(file, t, ends, i);
+    let answer = symbol::symbol_in(file, t, i);
     let SymbolAnswer::Found(s) = answer else {
         let SymbolAnswer::Refused(x) = answer else {
             return CsectAnswer::Refused(Refusal::Csect(i));

@@ -1,10 +1,11 @@
 -- The laws of the csect answers. Assumes nothing.
 use Prim.Native.Nat.{ℕ, _≤_, _<_}
 use mathlib.Core.Path.{_≡_, refl, sym, ap}
-use mathlib.Core.Bool.{true, false, cond, and-false}
+use mathlib.Core.Bool.{Bool, true, false, cond, _&&_, and-false}
 use mathlib.Core.List.{List, [], _∷_}
 use borrow.Author.Tests.{lt-ltb, le-ltb}
 use lib.Dec.{ltb}
+use Rattle.word.proofs.Test.{either}
 use types.Run.{OneOf, miss}
 use denote.Enum.Declared.{tagOf}
 use Rattle.format.specs.declared.SymbolIndex.{SymbolIndex}
@@ -14,7 +15,7 @@ use Rattle.refusal.specs.declared.Verdict.the-variants as verdict
 use Rattle.header.specs.declared.Opened.{Opened}
 use Rattle.header.specs.Open.{openOf}
 use Rattle.symbol.specs.declared.Tables.{Tables}
-use Rattle.symbol.specs.Entry.{tablesOf}
+use Rattle.symbol.specs.Entry.{OpenTables}
 use Rattle.symbol.specs.Symbol.{symbolIn}
 use Rattle.csect.specs.declared.Csect.{Csect}
 use Rattle.csect.specs.declared.CsectType.{CsectType}
@@ -22,7 +23,7 @@ use Rattle.csect.specs.declared.CsectType.the-variants.{Er, Sd, Ld, Cm}
 use Rattle.csect.specs.declared.CsectAnswer.{CsectAnswer}
 use Rattle.csect.specs.declared.CsectAnswer.the-variants.{Found, Refused}
 use Rattle.csect.specs.Csect.{ownAfter}
-use Rattle.csect_lookup.specs.Lookup.{isSd, isContained, contained, csectAfter, csectIn, csectAt, reportOfCsect, csectReport}
+use Rattle.csect_lookup.specs.Lookup.{isSdType, isSd, isContained, contained, csectAfter, csectIn, csectAt, reportOfCsect, csectReport}
 use Rattle.csect.proofs.CsectType.{the-type}
 
 -- only an LD has a container
@@ -48,6 +49,25 @@ module _ (file : List ℕ) (t : Tables) (i : SymbolIndex) (c : Csect) where
     unfolding isContained
     label-held h k = rw (lt-ltb (c .length) (i .0) h, ← e, k)
 
+-- an LD's container, judged by its own entry, is judged by its whole csect read: an SD needs no container, and an LD is none
+sd-by : (file : List ℕ) (t : Tables) (i : SymbolIndex) (c : Csect) (k : CsectType) → c .kind ≡ k → isSd (cond (isContained file t i c k) (Found c) (Refused (refusal.Csect i))) ≡ isSdType k
+unfolding isContained
+sd-by file t i c Er e = ap isSdType e
+sd-by file t i c Sd e = ap isSdType e
+sd-by file t i c Cm e = ap isSdType e
+sd-by file t i c Ld e = either (λ a. isSd a ≡ false) (isContained file t i c Ld) (λ _. ap isSdType e) (λ _. refl)
+
+sd-contained : (file : List ℕ) (t : Tables) (i : SymbolIndex) (a : CsectAnswer) → isSd a ≡ isSd (contained file t i a)
+unfolding contained
+sd-contained file t i (Refused x) = refl
+sd-contained file t i (Found c) = sym (sd-by file t i c (c .kind) refl)
+
+pub container-read : (file : List ℕ) (t : Tables) (i : SymbolIndex) (c : Csect) → isContained file t i c Ld ≡ (ltb (c .length) (i .0) && isSd (csectIn file t (record { 0 = c .length })))
+unfolding isContained csectIn csectAfter
+container-read file t i c =
+    let j : SymbolIndex = record { 0 = c .length } in
+    ap (λ (b : Bool). ltb (c .length) (i .0) && b) (sd-contained file t j (ownAfter file t j (symbolIn file t j)))
+
 -- an entry's own csect, with its container and without
 module _ (file : List ℕ) (t : Tables) (i : SymbolIndex) {a : CsectAnswer} {c : Csect} {k : CsectType} (e : a ≡ ownAfter file t i (symbolIn file t i)) (f : a ≡ Found c) (q : c .kind ≡ k) where
   pub csect-by : cond (isContained file t i c k) (Found c) (Refused (refusal.Csect i)) ≡ csectIn file t i
@@ -63,9 +83,9 @@ module _ (file : List ℕ) (i : SymbolIndex) where
   unfolding csectAt
   csect-refused e k = rw (rw e at k)
 
-  pub csect-opened : {o : Opened} → o ≡ openOf file → o .verdict ≡ verdict.Accepted → csectIn file (tablesOf (o .summary)) i ≡ csectAt file i
+  pub csect-opened : {t : Tables} → OpenTables file t → csectIn file t i ≡ csectAt file i
   unfolding csectAt
-  csect-opened e k = rw (e, rw e at k)
+  csect-opened o = rw (o .accepted, o .tables)
 
   pub csect-reported : {a : CsectAnswer} → a ≡ csectAt file i → (a ≡ csectAt file i) × (reportOfCsect a ≡ csectReport file i)
   csect-reported e = (e, ap reportOfCsect e)

@@ -10,7 +10,7 @@ use Rattle.refusal.specs.Refusal.{reportHead}
 use Rattle.header.specs.Open.{openOf}
 use Rattle.symbol.specs.declared.Tables.{Tables}
 use Rattle.symbol.specs.declared.SymbolAnswer.{SymbolAnswer}
-use Rattle.symbol.specs.Entry.{tablesOf}
+use Rattle.symbol.specs.Entry.{tablesAt}
 use Rattle.symbol.specs.Symbol.{symbolIn}
 use Rattle.csect.specs.declared.CsectType.{CsectType}
 use Rattle.csect.specs.declared.CsectType.the-variants.{Er, Sd, Ld, Cm}
@@ -31,7 +31,8 @@ abbrev pub isSd : CsectAnswer → Bool
 isSd (Found c) = isSdType (c .kind)
 isSd (Refused x) = false
 
--- an LD's length is a smaller index whose own entry reads as an SD csect. An LD there fails whatever it points at, so its container is not looked at
+-- an LD's length is a smaller index whose own entry reads as an SD csect. An LD there fails whatever it points at, so its container
+-- is not looked at: the law `Answers.container-read` says that this is the container's whole read
 unfoldable pub isContained : List ℕ → Tables → SymbolIndex → Csect → CsectType → Bool
 isContained file t i c Er = true
 isContained file t i c Sd = true
@@ -53,7 +54,7 @@ csectIn file t i = csectAfter file t i (symbolIn file t i)
 
 -- opening's refusals come first
 unfoldable pub csectAt : List ℕ → SymbolIndex → CsectAnswer
-csectAt file i = byVerdict (openOf file .verdict) (csectIn file (tablesOf (openOf file .summary)) i) Refused
+csectAt file i = byVerdict (openOf file .verdict) (csectIn file (tablesAt file) i) Refused
 
 abbrev pub typeNumber : CsectType → ℕ
 typeNumber Er = 0

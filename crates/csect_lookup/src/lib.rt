@@ -1,9 +1,7 @@
 // The csect entry of a symbol, looked up by the symbol's index: a label with its container.
 ghost use mathlib.Core.Path.{_≡_};
 ghost use mathlib.Core.Bool.{cond};
-ghost use Rattle.format.specs.Range.{bytesOf};
-ghost use Rattle.word.specs.Zero.{ZeroEnd};
-ghost use Rattle.symbol.specs.Entry.{TablesInside};
+ghost use Rattle.symbol.specs.Entry.{OpenTables};
 ghost use Rattle.csect_lookup.specs.Lookup.{isContained, isSd, csectIn, csectAt, typeNumber, reportOfCsect, csectReport};
 use csect::Csect;
 use csect::CsectAnswer;
@@ -42,14 +40,14 @@ fn is_sd(a: CsectAnswer) -> bool
 }
 
 // An LD with its container: the entry at its length must read as an SD csect of a smaller index.
-fn judge_label(file: &[u8], t: Tables, ends: u64, i: SymbolIndex, c: Csect) -> CsectAnswer
-    requires { ⌜ TablesInside (now file) t × ZeroEnd (bytesOf (now file) (t .strings)) ends ⌝ }
+fn judge_label(file: &[u8], t: Tables, i: SymbolIndex, c: Csect) -> CsectAnswer
+    requires { ⌜ OpenTables (now file) t ⌝ }
     ensures { λ r. ⌜ r ≡ cond (isContained (now (file .entry)) t i c CsectType.Ld) (CsectAnswer.Found c) (CsectAnswer.Refused (Refusal.Csect i)) ⌝ }
 {
     if i.0 <= c.length {
         return CsectAnswer::Refused(Refusal::Csect(i));
     }
-    let container = csect::own_csect(file, t, ends, SymbolIndex(c.length));
+    let container = csect::own_csect(file, t, SymbolIndex(c.length));
     if is_sd(container) {
         return CsectAnswer::Found(c);
     }
@@ -57,11 +55,11 @@ fn judge_label(file: &[u8], t: Tables, ends: u64, i: SymbolIndex, c: Csect) -> C
 }
 
 // The csect entry of the symbol at an index of a file that is open.
-pub fn csect_in(file: &[u8], t: Tables, ends: u64, i: SymbolIndex) -> CsectAnswer
-    requires { ⌜ TablesInside (now file) t × ZeroEnd (bytesOf (now file) (t .strings)) ends ⌝ }
+pub fn csect_in(file: &[u8], t: Tables, i: SymbolIndex) -> CsectAnswer
+    requires { ⌜ OpenTables (now file) t ⌝ }
     ensures { λ r. ⌜ r ≡ csectIn (now (file .entry)) t i ⌝ }
 {
-    let answer = csect::own_csect(file, t, ends, i);
+    let answer = csect::own_csect(file, t, i);
     let CsectAnswer::Found(c) = answer else {
         return answer;
     };
@@ -69,7 +67,7 @@ pub fn csect_in(file: &[u8], t: Tables, ends: u64, i: SymbolIndex) -> CsectAnswe
     let CsectType::Ld = k else {
         return CsectAnswer::Found(c);
     };
-    judge_label(file, t, ends, i, c)
+    judge_label(file, t, i, c)
 }
 
 // The csect entry of the symbol at an index: opening's refusals, the symbol's own, then CSECT.
@@ -83,10 +81,8 @@ pub fn csect_at(file: &[u8], i: SymbolIndex) -> CsectAnswer
         Verdict::Refused(x) => CsectAnswer::Refused(x),
         Verdict::Accepted => {
             let y = o.summary;
-            let t = symbol::tables_of(y);
-            let strings = t.strings;
-            let ends = symbol::names_end(file, strings);
-            csect_in(file, t, ends, i)
+            let t = symbol::tables_of(file, y);
+            csect_in(file, t, i)
         }
     }
 }

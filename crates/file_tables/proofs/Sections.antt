@@ -13,7 +13,7 @@ use Rattle.refusal.proofs.Order.{first-start, first-turn, first-stop, first-end
 use Rattle.section.specs.declared.Section.{Section}
 use Rattle.section.specs.declared.SectionAnswer.the-variants.{Found, Refused}
 use Rattle.file_header.specs.declared.FileHeader.{FileHeader}
-use Rattle.file_tables.specs.Tables.{judgedAt, verdictOf, sectionsCheck, sectionsOf, refusedScan, scanBy, scanOf}
+use Rattle.file_tables.specs.Tables.{judgedAt, verdictOf, sectionsCheck, sectionsOf, refusedScan, scanOf}
 
 module _ (file : List ℕ) (h : FileHeader) where
   -- the sections from i on are left to judge
@@ -40,11 +40,11 @@ module _ (file : List ℕ) (h : FileHeader) where
 
   -- what the scan gives where a section is refused, and where none is
   pub scan-refused : (i : ℕ) (x : Refusal) → i < h .nscns → judgedAt file h i ≡ Refused x → Left i → refusedScan x ≡ scanOf file h
-  unfolding scanOf scanBy
+  unfolding scanOf
   scan-refused i x l e k = rw (left-stop i x l e k)
 
   pub scan-accepted : (i : ℕ) (t : List Section) → h .nscns ≤ i → i ≤ h .nscns → Left i → t ≡ sectionsOf file h i → record { verdict = verdict.Accepted; sections = t } ≡ scanOf file h
-  unfolding scanOf scanBy
+  unfolding scanOf
   scan-accepted i t l m k e = rw (left-end i l k, e, same) refl
     where
       same : i ≡ h .nscns

@@ -15,7 +15,7 @@ use Rattle.refusal.specs.declared.Verdict.the-variants as verdict
 use Rattle.refusal.specs.declared.Refusal.{Refusal}
 use Rattle.refusal.specs.declared.Refusal.the-variants.{Bounds, Strings}
 use Rattle.refusal.specs.declared.BoundsItem.the-variants as bounds
-use Rattle.refusal.specs.Order.{_orElse_, refuseIf, firstOf}
+use Rattle.refusal.specs.Order.{_orElse_, refuseIf, firstOf, byVerdict}
 use Rattle.section.specs.declared.Section.{Section}
 use Rattle.section.specs.declared.SectionAnswer.{SectionAnswer}
 use Rattle.section.specs.declared.SectionAnswer.the-variants.{Found, Refused}
@@ -66,12 +66,8 @@ sectionsOf file h (suc i) = set (sectionsOf file h i) i (recordOf (judgedAt file
 unfoldable pub refusedScan : Refusal → Scan
 refusedScan x = record { verdict = verdict.Refused x; sections = blankSections }
 
-unfoldable pub scanBy : Verdict → List Section → Scan
-scanBy verdict.Accepted t = record { verdict = verdict.Accepted; sections = t }
-scanBy (verdict.Refused x) t = refusedScan x
-
 unfoldable pub scanOf : List ℕ → FileHeader → Scan
-scanOf file h = scanBy (sectionsCheck file h) (sectionsOf file h (h .nscns))
+scanOf file h = byVerdict (sectionsCheck file h) (record { verdict = verdict.Accepted; sections = sectionsOf file h (h .nscns) }) refusedScan
 
 -- ---- symbols and strings
 

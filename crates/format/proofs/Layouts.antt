@@ -83,8 +83,6 @@ aux-numbers-inside f base n e h = rw e (numbers-fields f base n h)
 
 -- the fields of a symbol table entry at base, in a file of n bytes
 pub record SymbolInside (l : SymbolLayout) (base n : ℕ) : Type 0 where
-  pub name : FieldInside (l .name) base n
-  pub zeroes : FieldInside (l .zeroes) base n
   pub offset : FieldInside (l .offset) base n
   pub value : FieldInside (l .value) base n
   pub scnum : FieldInside (l .scnum) base n
@@ -93,8 +91,8 @@ pub record SymbolInside (l : SymbolLayout) (base n : ℕ) : Type 0 where
   pub numaux : FieldInside (l .numaux) base n
 
 symbol-fields : (f : Format) (base n : ℕ) → base + symbolLength ≤ n → SymbolInside (symbolLayout f) base n
-symbol-fields Xcoff32 base n h = record { name = omega arith; zeroes = omega arith; offset = omega arith; value = omega arith; scnum = omega arith; ntype = omega arith; sclass = omega arith; numaux = omega arith }
-symbol-fields Xcoff64 base n h = record { name = omega arith; zeroes = omega arith; offset = omega arith; value = omega arith; scnum = omega arith; ntype = omega arith; sclass = omega arith; numaux = omega arith }
+symbol-fields Xcoff32 base n h = record { offset = omega arith; value = omega arith; scnum = omega arith; ntype = omega arith; sclass = omega arith; numaux = omega arith }
+symbol-fields Xcoff64 base n h = record { offset = omega arith; value = omega arith; scnum = omega arith; ntype = omega arith; sclass = omega arith; numaux = omega arith }
 
 pub symbol-inside : (f : Format) {l : SymbolLayout} (base n : ℕ) → l ≡ symbolLayout f → base + symbolLength ≤ n → SymbolInside l base n
 symbol-inside f base n e h = rw e (symbol-fields f base n h)

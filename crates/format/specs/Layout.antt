@@ -105,12 +105,10 @@ auxNumbers =
       snbss = field 42 Two;
     }
 
--- a symbol table entry; `name` and `zeroes` are XCOFF32's short name and its first word
+-- a symbol table entry
 abbrev pub symbolLayout : Format → SymbolLayout
 symbolLayout Xcoff32 =
     record {
-      name = field 0 Eight;
-      zeroes = field 0 Four;
       offset = field 4 Four;
       value = field 8 Four;
       scnum = field 12 Two;
@@ -120,8 +118,6 @@ symbolLayout Xcoff32 =
     }
 symbolLayout Xcoff64 =
     record {
-      name = field 0 Eight;
-      zeroes = field 0 Four;
       offset = field 8 Four;
       value = field 0 Eight;
       scnum = field 12 Two;
@@ -129,6 +125,13 @@ symbolLayout Xcoff64 =
       sclass = field 16 One;
       numaux = field 17 One;
     }
+
+-- in XCOFF32 alone its first 8 bytes are a short name, where their first word is not 0
+abbrev pub shortName : Field
+shortName = field 0 Eight
+
+abbrev pub zeroesField : Field
+zeroesField = field 0 Four
 
 -- its length, in both formats
 abbrev pub symbolLength : ℕ

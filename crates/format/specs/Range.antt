@@ -14,6 +14,10 @@ range start length = record { start = record { 0 = start }; length = length }
 abbrev pub bytesOf : List ℕ → FileRange → List ℕ
 bytesOf file r = take (r .length) (drop (r .start .0) file)
 
--- the text at the place f of what starts at base: up to the first zero
+-- the text in a part of the file: up to its first zero, or all of it
+abbrev pub textOf : List ℕ → FileRange → FileRange
+textOf file r = range (r .start .0) (firstZero (bytesOf file r))
+
+-- the text at the place f of what starts at base
 unfoldable pub textIn : Field → ℕ → List ℕ → FileRange
-textIn f base file = range (base + f .offset) (firstZero (take (bytesIn (f .width)) (drop (base + f .offset) file)))
+textIn f base file = textOf file (range (base + f .offset) (bytesIn (f .width)))

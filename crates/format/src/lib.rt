@@ -4,8 +4,8 @@ ghost use Prim.Native.Nat.{_+_, _≤_};
 ghost use lib.ListN.{length};
 ghost use Rattle.word.specs.Number.{bytesIn};
 ghost use Rattle.format.specs.Name.{nameField};
-ghost use Rattle.format.specs.Range.{textIn};
-ghost use Rattle.format.specs.Layout.{formatOf, headerLayout, sectionLayout, auxLayout, auxNumbers, symbolLayout, loaderLayout, relocationLayout, addressLimit, bitsOf};
+ghost use Rattle.format.specs.Range.{textIn, textOf};
+ghost use Rattle.format.specs.Layout.{formatOf, headerLayout, sectionLayout, auxLayout, auxNumbers, symbolLayout, shortName, loaderLayout, relocationLayout, addressLimit, bitsOf};
 use word::Field;
 
 // What is above a limit is refused.
@@ -76,10 +76,8 @@ pub struct SectionLayout {
     pub length: usize,
 }
 
-// A symbol table entry's numbers. XCOFF32 keeps a short name where its first word, `zeroes`, is not 0; in XCOFF64 that place is the value's.
+// A symbol table entry's numbers, and where an offset leads to its name.
 pub struct SymbolLayout {
-    pub name: Field,
-    pub zeroes: Field,
     pub offset: Field,
     pub value: Field,
     pub scnum: Field,
@@ -239,16 +237,12 @@ pub fn aux_numbers() -> AuxNumbers
 pub fn symbol_layout(f: Format) -> SymbolLayout
     ensures { λ r. ⌜ r ≡ symbolLayout f ⌝ }
 {
-    let name = word::eight(0);
-    let zeroes = word::four(0);
     let scnum = word::two(12);
     let ntype = word::two(14);
     let sclass = word::one(16);
     let numaux = word::one(17);
     match f {
         Format::Xcoff32 => SymbolLayout {
-            name,
-            zeroes,
             offset: word::four(4),
             value: word::four(8),
             scnum,
@@ -257,8 +251,6 @@ pub fn symbol_layout(f: Format) -> SymbolLayout
             numaux,
         },
         Format::Xcoff64 => SymbolLayout {
-            name,
-            zeroes,
             offset: word::four(8),
             value: word::eight(0),
             scnum,
@@ -267,6 +259,13 @@ pub fn symbol_layout(f: Format) -> SymbolLayout
             numaux,
         },
     }
+}
+
+// XCOFF32 keeps a short name in an entry's first 8 bytes, where their first word is not 0.
+pub fn short_name() -> Field
+    ensures { λ r. ⌜ r ≡ shortName ⌝ }
+{
+    word::eight(0)
 }
 
 pub fn loader_layout(f: Format) -> LoaderLayout
@@ -314,8 +313,7 @@ pub fn read_name_field(file: &[u8], f: Format, base: usize) -> NameField
     let offset = l.offset;
     match f {
         Format::Xcoff32 => {
-            let zeroes = l.zeroes;
-            if word::read_field(file, base, zeroes) == 0 {
+            if word::read_field(file, base, word::four(0)) == 0 {
                 return NameField::Offset(word::read_field(file, base, offset));
             }
             NameField::Short
@@ -334,6 +332,20 @@ pub fn last_address(f: Format) -> VirtualAddress
     }
 }
 
+// The text in a part of the file: up to its first zero, or all of it.
+pub fn text_of(file: &[u8], r: FileRange) -> FileRange
+    requires { ⌜ r .start .0 + r .length ≤ length (now file) ⌝ }
+    ensures { λ x. ⌜ x ≡ textOf (now (file .entry)) r ⌝ }
+{
+    let from = r.start;
+    let start = from.0 as usize;
+    let end = start + r.length as usize;
+    FileRange {
+        start: from,
+        length: word::first_zero(&file[start..end]) as u64,
+    }
+}
+
 // The text at the place `f` of what starts at `base`: up to the first zero.
 pub fn text_in(file: &[u8], base: usize, f: Field) -> FileRange
     requires { ⌜ base + f .offset + bytesIn (f .width) ≤ length (now file) ⌝ }
@@ -341,11 +353,11 @@ pub fn text_in(file: &[u8], base: usize, f: Field) -> FileRange
 {
     let start = base + f.offset;
     let width = f.width;
-    let end = start + word::bytes_in(width);
-    FileRange {
+    let r = FileRange {
         start: FileOffset(start as u64),
-        length: word::first_zero(&file[start..end]) as u64,
-    }
+        length: word::bytes_in(width) as u64,
+    };
+    text_of(file, r)
 }
 
 // How many bits an address has.

@@ -9,18 +9,16 @@ use lib.ListN.{length, getD, set, length-set, length-replicate}
 use lib.Seq.{getD-set-same, getD-set-other}
 use borrow.Author.Tests.{ltb-false, eq-eqb, ne-eqb}
 use Rattle.word.specs.Number.{fieldIn}
-use Rattle.word.proofs.Test.{either}
 use Rattle.format.specs.declared.Format.{Format}
 use Rattle.format.specs.declared.MagicAnswer.{MagicAnswer}
 use Rattle.format.specs.declared.MagicAnswer.the-variants.{Known, Unknown}
 use Rattle.format.specs.Layout.{magicField, formatOf, headerLayout, symbolLength}
 use Rattle.format.specs.Limit.{fileLimit, sectionLimit}
-use Rattle.refusal.specs.declared.Refusal.{Refusal}
 use Rattle.refusal.specs.declared.Refusal.the-variants.{Short, Magic, Limit}
 use Rattle.refusal.specs.declared.LimitItem.the-variants.{File, Sections}
 use Rattle.refusal.specs.declared.Verdict.{Verdict}
 use Rattle.refusal.specs.declared.Verdict.the-variants as verdict
-use Rattle.refusal.specs.Order.{_orElse_, refuseIf}
+use Rattle.refusal.specs.Order.{_orElse_, refuseIf, byVerdict}
 use Rattle.refusal.proofs.Order.{not-accepted, accepted-first, accepted-rest, accepted-test, first-all}
 use Rattle.section.specs.declared.SectionAnswer.{SectionAnswer}
 use Rattle.section.specs.declared.SectionAnswer.the-variants.{Found, Refused}
@@ -28,11 +26,10 @@ use Rattle.section.specs.Section.{sectionHeaderAt, SectionWithin}
 use Rattle.section.proofs.Judged.{Judged, section-judged}
 use Rattle.file_header.specs.declared.FileHeader.{FileHeader}
 use Rattle.header.specs.declared.Summary.{Summary}
-use Rattle.header.specs.declared.Opened.{Opened}
 use Rattle.file_header.specs.Header.{headerAt, sectionStart, headerCheck, HeaderComplete}
 use Rattle.file_tables.specs.Tables.{blankSection, blankSections, judgedAt, verdictOf, recordOf, sectionsCheck, sectionsOf, symbolsCheck, symbolTable}
 use Rattle.header.specs.Inside.{Inside}
-use Rattle.header.specs.Open.{refusedBy, openedBy, summaryWith, openAs, openBy, openOf}
+use Rattle.header.specs.Open.{summaryWith, formatCheck, magicCheck, openCheck, refusedBy, acceptedWith, summaryAs, summaryBy, openOf}
 use Rattle.file_tables.proofs.Symbols.{symbols-inside, strings-inside}
 
 -- ---- the file header
@@ -124,36 +121,40 @@ checked-inside f file l e k m =
           (judged-inside file h i (first-all (λ j. verdictOf (judgedAt file h j)) (h .nscns) 0 k i (omega arith) (omega arith)));
     }
 
--- of an answer: it holds where the file is accepted
-abbrev pub Answered : List ℕ → Opened → Type 0
-Answered file o = o .verdict ≡ verdict.Accepted → Inside file (o .summary)
+-- what opening says is what the order of its checks gives
+opened-by : (v : Verdict) (y : Summary) → byVerdict v (acceptedWith y) refusedBy .verdict ≡ v
+opened-by verdict.Accepted y = refl
+opened-by (verdict.Refused x) y = refl
 
-refused-answered : (file : List ℕ) (x : Refusal) → Answered file (refusedBy (verdict.Refused x))
-unfolding refusedBy
-refused-answered file x e = not-accepted e
-
-by-verdict : (file : List ℕ) (v : Verdict) (y : Summary) → (v ≡ verdict.Accepted → Inside file y) → Answered file (openedBy v y)
-unfolding openedBy
-by-verdict file verdict.Accepted y k e = k e
-by-verdict file (verdict.Refused x) y k e = refused-answered file x e
-
-as-answered : (f : Format) (file : List ℕ) → length file ≤ fileLimit → Answered file (openAs f file)
-unfolding openAs
-as-answered f file l =
-    let h = headerAt f file in
-    by-verdict file (headerCheck f file orElse sectionsCheck file h orElse symbolsCheck file h) _
-    (λ e. let r = accepted-rest (headerCheck f file) _ e in
-    checked-inside f file l (accepted-first (headerCheck f file) _ e) (accepted-first (sectionsCheck file h) _ r) (accepted-rest (sectionsCheck file h) _ r))
-
-by-format : (file : List ℕ) (a : MagicAnswer) → length file ≤ fileLimit → Answered file (openBy file a)
-unfolding openBy
-by-format file Unknown l = refused-answered file Magic
-by-format file (Known f) l = as-answered f file l
-
--- an accepted file is inside its bounds
-pub opened-inside : (file : List ℕ) → openOf file .verdict ≡ verdict.Accepted → Inside file (openOf file .summary)
+pub open-verdict : (file : List ℕ) → openOf file .verdict ≡ openCheck file
 unfolding openOf
-opened-inside file =
-    either (Answered file) (ltb fileLimit (length file)) (λ _. refused-answered file (Limit File))
-    (λ l. either (Answered file) (ltb (length file) 2) (λ _. refused-answered file Short)
-    (λ _. by-format file (formatOf (fieldIn magicField 0 file)) (ltb-false fileLimit (length file) l)))
+open-verdict file = opened-by (openCheck file) (summaryBy file (formatOf (fieldIn magicField 0 file)))
+
+module _ (file : List ℕ) (e : openOf file .verdict ≡ verdict.Accepted) where
+  accepted-check : openCheck file ≡ verdict.Accepted
+  accepted-check = rw (open-verdict file) at e
+
+  checks : (refuseIf (ltb fileLimit (length file)) (Limit File) orElse refuseIf (ltb (length file) 2) Short orElse magicCheck file (formatOf (fieldIn magicField 0 file))) ≡ verdict.Accepted
+  unfolding openCheck
+  checks = accepted-check
+
+  small-file : length file ≤ fileLimit
+  small-file =
+      ltb-false fileLimit (length file)
+      (accepted-test (ltb fileLimit (length file)) (Limit File) (accepted-first (refuseIf (ltb fileLimit (length file)) (Limit File)) _ checks))
+
+  magic-accepted : magicCheck file (formatOf (fieldIn magicField 0 file)) ≡ verdict.Accepted
+  magic-accepted = accepted-rest (refuseIf (ltb (length file) 2) Short) _ (accepted-rest (refuseIf (ltb fileLimit (length file)) (Limit File)) _ checks)
+
+  by-format : (a : MagicAnswer) → magicCheck file a ≡ verdict.Accepted → Inside file (summaryBy file a)
+  unfolding formatCheck summaryAs
+  by-format Unknown k = not-accepted k
+  by-format (Known f) k =
+      let h = headerAt f file in
+      let r = accepted-rest (headerCheck f file) _ k in
+      checked-inside f file small-file (accepted-first (headerCheck f file) _ k) (accepted-first (sectionsCheck file h) _ r) (accepted-rest (sectionsCheck file h) _ r)
+
+  -- an accepted file is inside its bounds
+  pub opened-inside : Inside file (openOf file .summary)
+  unfolding openOf
+  opened-inside = rw accepted-check (by-format (formatOf (fieldIn magicField 0 file)) magic-accepted)

@@ -15,7 +15,7 @@ use Rattle.refusal.specs.Order.{firstOf}
 use Rattle.section.specs.Section.{sectionHeaderAt, hasRawData, rawDataPast, misplaced, sectionOf, judgeKind, judgeSection}
 use Rattle.file_header.specs.Header.{headerAt, sectionStart, headerCheck}
 use Rattle.file_tables.specs.Tables.{blankSections, judgedAt, sectionsCheck, sectionsOf, symbolsCheck, tableAt, symbolTable}
-use Rattle.header.specs.Open.{openedBy, summaryWith, openAs, openBy, openOf}
+use Rattle.header.specs.Open.{summaryWith, formatCheck, openCheck, summaryAs, openOf}
 
 -- 64 bytes: the magic number, one section, zeros to byte 20; `.text` padded to 8, 10000000 twice, size 4, pointer 60, zeros, flags 20; four bytes
 unfoldable pub example : List ℕ
@@ -47,5 +47,5 @@ pub example-opens : openOf example ≡ record {
     flags = 0;
   };
 }
-unfolding example valueOf fieldAt past listedKind kindOf formatOf firstOf sectionHeaderAt hasRawData rawDataPast misplaced sectionOf judgeKind judgeSection headerAt sectionStart headerCheck blankSections judgedAt sectionsCheck sectionsOf symbolsCheck symbolTable openedBy summaryWith openAs openBy openOf
+unfolding example valueOf fieldAt past listedKind kindOf formatOf firstOf sectionHeaderAt hasRawData rawDataPast misplaced sectionOf judgeKind judgeSection headerAt sectionStart headerCheck blankSections judgedAt sectionsCheck sectionsOf symbolsCheck symbolTable formatCheck summaryWith openCheck summaryAs openOf
 example-opens = refl

@@ -1,6 +1,5 @@
 -- What opening a file gives, in the order of document 01, "Opening".
 use Prim.Native.Nat.{ℕ}
-use mathlib.Core.Bool.{cond}
 use mathlib.Core.List.{List}
 use lib.Dec.{ltb}
 use lib.ListN.{length}
@@ -11,12 +10,13 @@ use Rattle.format.specs.declared.MagicAnswer.{MagicAnswer}
 use Rattle.format.specs.declared.MagicAnswer.the-variants.{Known, Unknown}
 use Rattle.format.specs.Layout.{magicField, formatOf, bitsOf}
 use Rattle.format.specs.Limit.{fileLimit}
+use Rattle.refusal.specs.declared.Refusal.{Refusal}
 use Rattle.refusal.specs.declared.Refusal.the-variants.{Short, Magic, Limit}
 use Rattle.refusal.specs.declared.LimitItem.the-variants.{File}
 use Rattle.refusal.specs.declared.Verdict.{Verdict}
 use Rattle.refusal.specs.declared.Verdict.the-variants.{Accepted, Refused}
 use Rattle.refusal.specs.Refusal.{reportHead}
-use Rattle.refusal.specs.Order.{_orElse_, ifAccepted}
+use Rattle.refusal.specs.Order.{_orElse_, refuseIf, byVerdict, ifAccepted}
 use Rattle.section.specs.declared.Section.{Section}
 use Rattle.file_header.specs.declared.FileHeader.{FileHeader}
 use Rattle.header.specs.declared.Summary.{Summary}
@@ -42,31 +42,42 @@ summaryWith file h t =
       flags = h .flags;
     }
 
-unfoldable pub refusedBy : Verdict → Opened
-refusedBy v = record { verdict = v; summary = blankSummary }
+-- ---- the order of opening
 
-unfoldable pub openedBy : Verdict → Summary → Opened
-openedBy Accepted y = record { verdict = Accepted; summary = y }
-openedBy (Refused x) y = refusedBy (Refused x)
-
--- the file header, then each section, then symbols
-unfoldable pub openAs : Format → List ℕ → Opened
-openAs f file =
-    openedBy
-    (headerCheck f file orElse sectionsCheck file (headerAt f file) orElse symbolsCheck file (headerAt f file))
-    (summaryWith file (headerAt f file) (sectionsOf file (headerAt f file) (headerAt f file .nscns)))
+-- by the format: the file header, then each section, then symbols
+unfoldable pub formatCheck : Format → List ℕ → Verdict
+formatCheck f file = headerCheck f file orElse sectionsCheck file (headerAt f file) orElse symbolsCheck file (headerAt f file)
 
 -- MAGIC, then by the format
-unfoldable pub openBy : List ℕ → MagicAnswer → Opened
-openBy file Unknown = refusedBy (Refused Magic)
-openBy file (Known f) = openAs f file
+abbrev pub magicCheck : List ℕ → MagicAnswer → Verdict
+magicCheck file Unknown = Refused Magic
+magicCheck file (Known f) = formatCheck f file
 
 -- LIMIT 0, SHORT, then by the magic number
+unfoldable pub openCheck : List ℕ → Verdict
+openCheck file =
+    refuseIf (ltb fileLimit (length file)) (Limit File)
+    orElse refuseIf (ltb (length file) 2) Short
+    orElse magicCheck file (formatOf (fieldIn magicField 0 file))
+
+-- ---- the answer
+
+abbrev pub refusedBy : Refusal → Opened
+refusedBy x = record { verdict = Refused x; summary = blankSummary }
+
+abbrev pub acceptedWith : Summary → Opened
+acceptedWith y = record { verdict = Accepted; summary = y }
+
+-- the summary of a file with the magic number of f
+unfoldable pub summaryAs : Format → List ℕ → Summary
+summaryAs f file = summaryWith file (headerAt f file) (sectionsOf file (headerAt f file) (headerAt f file .nscns))
+
+abbrev pub summaryBy : List ℕ → MagicAnswer → Summary
+summaryBy file Unknown = blankSummary
+summaryBy file (Known f) = summaryAs f file
+
 unfoldable pub openOf : List ℕ → Opened
-openOf file =
-    cond (ltb fileLimit (length file)) (refusedBy (Refused (Limit File)))
-    (cond (ltb (length file) 2) (refusedBy (Refused Short))
-    (openBy file (formatOf (fieldIn magicField 0 file))))
+openOf file = byVerdict (openCheck file) (acceptedWith (summaryBy file (formatOf (fieldIn magicField 0 file)))) refusedBy
 
 -- the answer in document 01's numbers; a blank summary has a format, and a refused file none
 abbrev pub reportOfOpened : Opened → OpenReport

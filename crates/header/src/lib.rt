@@ -1,10 +1,10 @@
 // Opening a file: its headers are judged in the order of document 01, and a summary by value is handed back.
 ghost use mathlib.Core.Path.{_≡_};
 ghost use Rattle.format.specs.Layout.{bitsOf};
-ghost use Rattle.refusal.specs.Order.{ifAccepted};
+ghost use Rattle.refusal.specs.Order.{byVerdict, ifAccepted};
 ghost use Rattle.file_header.specs.Header.{Bounded};
 ghost use Rattle.file_tables.specs.Tables.{symbolsCheck};
-ghost use Rattle.header.specs.Open.{refusedBy, openedBy, summaryWith, openAs, openOf, openReport, reportOfOpened};
+ghost use Rattle.header.specs.Open.{blankSummary, summaryWith, formatCheck, refusedBy, acceptedWith, summaryAs, openOf, openReport, reportOfOpened};
 use file_header::FileHeader;
 use file_tables::SymbolTable;
 use format::FileOffset;
@@ -44,7 +44,7 @@ pub struct OpenReport {
 }
 
 fn refuse(v: Verdict) -> Opened
-    ensures { λ r. ⌜ r ≡ refusedBy v ⌝ }
+    ensures { λ r. ⌜ r ≡ record { verdict = v; summary = blankSummary } ⌝ }
 {
     let blank = file_tables::blank_section();
     let symbols = SymbolTable {
@@ -72,7 +72,7 @@ fn refuse(v: Verdict) -> Opened
 // The answer for a file whose header and sections are accepted.
 fn open_symbols(file: &[u8], h: FileHeader, sections: [Section; 32]) -> Opened
     requires { ⌜ Bounded h ⌝ }
-    ensures { λ r. ⌜ r ≡ openedBy (symbolsCheck (now (file .entry)) h) (summaryWith (now (file .entry)) h sections) ⌝ }
+    ensures { λ r. ⌜ r ≡ byVerdict (symbolsCheck (now (file .entry)) h) (acceptedWith (summaryWith (now (file .entry)) h sections)) refusedBy ⌝ }
 {
     let v = file_tables::check_symbols(file, h);
     if refusal::refuses(v) {
@@ -96,7 +96,7 @@ fn open_symbols(file: &[u8], h: FileHeader, sections: [Section; 32]) -> Opened
 
 // The answer for a file with the magic number of `f`.
 fn open_as(file: &[u8], f: Format) -> Opened
-    ensures { λ r. ⌜ r ≡ openAs f (now (file .entry)) ⌝ }
+    ensures { λ r. ⌜ r ≡ byVerdict (formatCheck f (now (file .entry))) (acceptedWith (summaryAs f (now (file .entry)))) refusedBy ⌝ }
 {
     let v = file_header::check_header(file, f);
     if refusal::refuses(v) {

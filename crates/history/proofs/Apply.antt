@@ -1,6 +1,6 @@
 -- Laws of relocation entries applied to images. Assumes nothing.
 use mathlib.Core.Path.{_≡_, refl, sym, _∙_, ap}
-use mathlib.Core.Bool.{Bool, true, false}
+use mathlib.Core.Bool.{Bool, true, false, not}
 use mathlib.Core.Logic.{_⊎_, inl, inr}
 use mathlib.Core.List.{List, [], _∷_}
 use Prim.Native.Nat.{ℕ, _+_, _≤_, _<_}
@@ -12,8 +12,8 @@ use Rattle.update.specs.Update.{Apart, Bytes}
 use Rattle.update.proofs.Laws.{length-add, add-add, add-apart, add-zero, add-outside}
 use Rattle.relocation.specs.declared.FieldPlace.{FieldPlace}
 use Rattle.relocation.specs.Relocation.{bytesWide}
-use Rattle.clash.specs.Overlap.{Compatible}
-use Rattle.clash.specs.Overlap.Compatible.{otherSection, same, before, after}
+use Rattle.field_overlap.specs.Overlap.{Compatible}
+use Rattle.field_overlap.specs.Overlap.Compatible.{otherSection, same, before, after}
 use Rattle.history.specs.declared.Relocation.{Relocation}
 use Rattle.book.specs.Machine.{sum}
 use Rattle.book.specs.Entries as entries
@@ -22,6 +22,21 @@ use Rattle.book.proofs.Entries.{FieldLaws}
 use Rattle.history.specs.Images.{Images, images, lengths, fields, Shifts, signed, addAt, applyEntry, applyAll, lengthOf, All, Inside, Pairwise, imageOf, InField}
 
 -- ---- one field changed
+
+-- the other image stays
+other-image : (t : Bool) (w off : ℕ) (z : ℤ) (x : Images) → imageOf (not t) (addAt t w off z x) ≡ imageOf (not t) x
+unfolding addAt
+other-image true w off z x = refl
+other-image false w off z x = refl
+
+-- what is outside the field stays
+addAt-outside : (t u : Bool) (w off k : ℕ) (z : ℤ) (x : Images) → (t ≡ u → (k < off) ⊎ (off + w ≤ k))
+    → getD (imageOf u (addAt t w off z x)) k 0 ≡ getD (imageOf u x) k 0
+unfolding addAt
+addAt-outside true true w off k z x h = add-outside w off k z (x .text) (h refl)
+addAt-outside true false w off k z x h = ap (λ (l : List ℕ). getD l k 0) (other-image true w off z x)
+addAt-outside false true w off k z x h = ap (λ (l : List ℕ). getD l k 0) (other-image false w off z x)
+addAt-outside false false w off k z x h = add-outside w off k z (x .dat) (h refl)
 
 -- a field added to keeps both lengths
 addAt-lengths : (t : Bool) (w off : ℕ) (z : ℤ) (x : Images) → lengths (addAt t w off z x) ≡ lengths x
@@ -61,15 +76,6 @@ addAt-apart : (t : Bool) (w off w′ off′ : ℕ) (a b : ℤ) (x : Images) → 
 unfolding addAt
 addAt-apart true w off w′ off′ a b x h = ap (λ (l : List ℕ). images l (x .dat)) (add-apart w off w′ off′ a b (x .text) h)
 addAt-apart false w off w′ off′ a b x h = ap (λ (l : List ℕ). images (x .text) l) (add-apart w off w′ off′ a b (x .dat) h)
-
--- what is outside the field stays
-addAt-outside : (t u : Bool) (w off k : ℕ) (z : ℤ) (x : Images) → (t ≡ u → (k < off) ⊎ (off + w ≤ k))
-    → getD (imageOf u (addAt t w off z x)) k 0 ≡ getD (imageOf u x) k 0
-unfolding addAt
-addAt-outside true true w off k z x h = add-outside w off k z (x .text) (h refl)
-addAt-outside true false w off k z x h = refl
-addAt-outside false true w off k z x h = refl
-addAt-outside false false w off k z x h = add-outside w off k z (x .dat) (h refl)
 
 -- ---- fields by their places
 

@@ -73,10 +73,15 @@ chain-on m x p cs r (moved {o = o} {q = q} {cs = ds} e s c) y v =
     machine.Chain.moved (v (move o q) ∙ e) (same-displacements m o p s) (chain-on m x q ds r c (effect m (move o q) y) (λ d. verdict-after m (move o q) d y ∙ v d))
 chain-on m x p cs r (passed {c = k} {cs = ds} z e c) y v = machine.Chain.passed z (v k ∙ e) (chain-on m x p ds r c y v)
 
--- an accepted build leaves its plan's images
-build-images : (m : Relocatable) (x : Images) (p : Plan) → Accepts m x (build p) → effect m (build p) x ≡ builtImages m p
+-- "A build is the raw bytes with each entry applied in order": what an accepted one leaves, whatever the buffers held
+pub build-images : (m : Relocatable) (x : Images) (p : Plan) → Accepts m x (build p) → effect m (build p) x ≡ builtImages m p
 unfolding effect builtImages
 build-images m x p e = calls.effect-accepted (machineOf m) (build p) x e
+
+-- "a move uses the difference between two plans" and "takes the buffers as they are": what an accepted one leaves
+pub move-images : (m : Relocatable) (x : Images) (p q : Plan) → Accepts m x (move p q) → effect m (move p q) x ≡ applyAll (m .entries) (differences m p q) x
+unfolding effect
+move-images m x p q e = calls.effect-accepted (machineOf m) (move p q) x e
 
 -- "If a build was accepted, and each accepted move after the last such build goes from the plan that the accepted call before it reached, these are the
 -- images that demand 2 defines for the last plan so reached."
@@ -117,7 +122,7 @@ accepted-back m sound x t d p q e =
     let y : Images = effect m (move p q) x in
     let i = accepted-inside m sound (move p q) x e in
     calls.effect-accepted (machineOf m) (move q p) y (verdict-after m (move p q) (move q p) x ∙ move-back-accepted m (length (x .text)) (length (x .dat)) p q e)
-    ∙ ap (λ (z : Images). applyAll (m .entries) (differences m q p) z) (calls.effect-accepted (machineOf m) (move p q) x e)
+    ∙ ap (λ (z : Images). applyAll (m .entries) (differences m q p) z) (move-images m x p q e)
     ∙ applyAll-add (m .entries) (differences m p q) (differences m q p) x i (sound .pairwise)
     ∙ ap (λ (s : Shifts). applyAll (m .entries) s x) (chains.differences-back (machineOf m) p q)
     ∙ applyAll-zero (m .entries) x t d i

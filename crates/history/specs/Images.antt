@@ -10,7 +10,7 @@ use Rattle.book.specs.Entries as entries
 use Rattle.update.specs.Update.{addField}
 use Rattle.relocation.specs.declared.FieldPlace.{FieldPlace}
 use Rattle.relocation.specs.Relocation.{bytesWide}
-use Rattle.clash.specs.Overlap.{Compatible}
+use Rattle.field_overlap.specs.Overlap.{Compatible}
 use Rattle.history.specs.declared.Relocation.{Relocation}
 use mathlib.Core.Path.{_≡_}
 

@@ -8,5 +8,5 @@ use Rattle.image.specs.declared.CallReport.{CallReport}
 
 abbrev pub reportOfCall : CallAnswer → CallReport
 reportOfCall (Done r) =
-    record { head = reportHead verdict.Accepted; hasentry = present (r .entry); entry = addressOf (r .entry); hastoc = present (r .toc); toc = addressOf (r .toc) }
-reportOfCall (Refused x) = record { head = reportHead (verdict.Refused x); hasentry = 0; entry = 0; hastoc = 0; toc = 0 }
+    record { head = reportHead verdict.Accepted; «has_entry» = present (r .entry); entry = addressOf (r .entry); «has_toc» = present (r .toc); toc = addressOf (r .toc) }
+reportOfCall (Refused x) = record { head = reportHead (verdict.Refused x); «has_entry» = 0; entry = 0; «has_toc» = 0; toc = 0 }

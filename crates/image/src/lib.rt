@@ -15,13 +15,13 @@ use loadable::LoadableAnswer;
 use refusal::Head;
 use refusal::Verdict;
 
-// The entry and TOC addresses in the plan that the call reached; `hasentry` and `hastoc` are 1 where there is one.
+// The entry and TOC addresses in the plan that the call reached; `has_entry` and `has_toc` are 1 where there is one.
 #[repr(C)]
 pub struct CallReport {
     pub head: Head,
-    pub hasentry: u64,
+    pub has_entry: u64,
     pub entry: u64,
-    pub hastoc: u64,
+    pub has_toc: u64,
     pub toc: u64,
 }
 
@@ -145,17 +145,17 @@ pub fn report_call(a: CallAnswer) -> CallReport
             let toc = r.toc;
             CallReport {
                 head: refusal::report_head(Verdict::Accepted),
-                hasentry: displacement::is_present(entry),
+                has_entry: displacement::is_present(entry),
                 entry: displacement::address_of(entry),
-                hastoc: displacement::is_present(toc),
+                has_toc: displacement::is_present(toc),
                 toc: displacement::address_of(toc),
             }
         }
         CallAnswer::Refused(x) => CallReport {
             head: refusal::report_head(Verdict::Refused(x)),
-            hasentry: 0,
+            has_entry: 0,
             entry: 0,
-            hastoc: 0,
+            has_toc: 0,
             toc: 0,
         },
     }

@@ -1,3 +1,4 @@
 -- The laws of the import id table.
 
+pub mod Rest
 pub mod Imports

@@ -11,7 +11,7 @@ use Rattle.refusal.specs.Order.{firstOf}
 use Rattle.section.specs.Section.{sectionHeaderAt, hasRawData, rawDataPast, misplaced, sectionOf, judgeKind, judgeSection}
 use Rattle.file_header.specs.Header.{headerAt, sectionStart, headerCheck}
 use Rattle.file_tables.specs.Tables.{blankSections, judgedAt, sectionsCheck, sectionsOf, symbolsCheck, symbolTable}
-use Rattle.header.specs.Open.{summaryWith, openedBy, openAs, openBy, openOf}
+use Rattle.header.specs.Open.{summaryWith, formatCheck, openCheck, summaryAs, openOf}
 use Rattle.text.specs.Text.{digitOf, digits, placesIn, places, decimal, hex}
 use Rattle.listing.specs.Listing.{fileLine, sectionLine, sectionLines, summaryText, listing}
 
@@ -31,5 +31,5 @@ exampleText =
     ++ (49 ∷ 32 ∷ 116 ∷ 101 ∷ 120 ∷ 116 ∷ 32 ∷ 49 ∷ 48 ∷ 48 ∷ 48 ∷ 48 ∷ 48 ∷ 48 ∷ 48 ∷ 32 ∷ 52 ∷ 10 ∷ [])
 
 pub example-listed : (a b c d : ℕ) → listing (exampleFile a b c d) ≡ exampleText
-unfolding valueOf fieldAt past listedKind kindOf formatOf firstOf sectionHeaderAt hasRawData rawDataPast misplaced sectionOf judgeKind judgeSection headerAt sectionStart headerCheck blankSections judgedAt sectionsCheck sectionsOf symbolsCheck symbolTable summaryWith openedBy openAs openBy openOf digitOf digits placesIn places decimal hex fileLine sectionLine sectionLines summaryText listing
+unfolding valueOf fieldAt past listedKind kindOf formatOf firstOf sectionHeaderAt hasRawData rawDataPast misplaced sectionOf judgeKind judgeSection headerAt sectionStart headerCheck blankSections judgedAt sectionsCheck sectionsOf symbolsCheck symbolTable summaryWith formatCheck openCheck summaryAs openOf digitOf digits placesIn places decimal hex fileLine sectionLine sectionLines summaryText listing
 example-listed a b c d = refl

@@ -30,8 +30,8 @@ use Rattle.loader.specs.Inside.{LoaderInside}
 use Rattle.loader.proofs.Accepted.{loader-inside}
 use Rattle.relocation.specs.Relocation.{entryIn, ownAt, placeAt, EntriesInside, PlaceInside}
 use Rattle.relocation.proofs.Entries.{place-inside, own-symbol}
-use Rattle.clash.specs.Overlap.{meets, Readable}
-use Rattle.clash.proofs.Rule.{meets-none}
+use Rattle.field_overlap.specs.Overlap.{meets, Readable}
+use Rattle.field_overlap.proofs.Rule.{meets-none}
 use Rattle.loadable.specs.declared.Loadable.{Loadable}
 use Rattle.loadable.specs.declared.LoadableAnswer.{LoadableAnswer}
 use Rattle.loadable.specs.declared.LoadableAnswer.the-variants.{Found, Refused}

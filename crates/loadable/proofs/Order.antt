@@ -19,8 +19,8 @@ use Rattle.refusal.proofs.Order.{go-on, stop, first-start, first-turn, first-st
 use Rattle.parts.specs.declared.Parts.{Parts}
 use Rattle.loader_header.specs.declared.LoaderTables.{LoaderTables}
 use Rattle.relocation.specs.Relocation.{ownAt, placeAt}
-use Rattle.clash.specs.Overlap.{meets, First}
-use Rattle.clash.proofs.Rule.{first-before, first-here}
+use Rattle.field_overlap.specs.Overlap.{meets, First}
+use Rattle.field_overlap.proofs.Rule.{first-before, first-here}
 use Rattle.loadable.specs.Entries.{entryCheck, FirstRefused, verdictAt}
 
 module _ (check : ℕ → Verdict) where

@@ -14,7 +14,7 @@ use Rattle.refusal.specs.Order.{_orElse_, refuseIf, firstOf}
 use Rattle.parts.specs.declared.Parts.{Parts}
 use Rattle.loader_header.specs.declared.LoaderTables.{LoaderTables}
 use Rattle.relocation.specs.Relocation.{ownAt, placeAt, EntriesInside}
-use Rattle.clash.specs.Overlap.{meets}
+use Rattle.field_overlap.specs.Overlap.{meets}
 
 -- entry i: THREAD and LREL, then OVERLAP where its field meets an earlier entry's that isn't the same
 unfoldable pub entryCheck : List ℕ → Format → Parts → LoaderTables → ℕ → Verdict

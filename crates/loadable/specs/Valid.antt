@@ -6,7 +6,7 @@ use Rattle.refusal.specs.declared.Verdict.the-variants.{Accepted}
 use Rattle.module.specs.Inside.{ModuleInside}
 use Rattle.loader.specs.Inside.{LoaderInside}
 use Rattle.relocation.specs.Relocation.{entryIn, ownAt, placeAt, EntriesInside, PlaceInside}
-use Rattle.clash.specs.Overlap.{Compatible}
+use Rattle.field_overlap.specs.Overlap.{Compatible}
 use Rattle.loadable.specs.declared.Loadable.{Loadable}
 
 pub record Valid (file : List ℕ) (l : Loadable) : Type 0 where

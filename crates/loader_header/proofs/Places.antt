@@ -49,9 +49,9 @@ pub place-full : (start off len : ℕ) → (len ≡ 0 → ⊥) → placeOf start
 place-full start off len n = rw (ne-eqb len 0 n)
 
 -- value and section number of a loader symbol, in a file of n bytes
-entry-fields : (f : Format) (base n : ℕ) → base + loaderSymbolLength ≤ n → FieldInside (symbolLayout f .value) base n × FieldInside (symbolLayout f .scnum) base n × FieldInside (symbolLayout f .name) base n
-entry-fields Xcoff32 base n h = (omega arith, omega arith, omega arith)
-entry-fields Xcoff64 base n h = (omega arith, omega arith, omega arith)
+entry-fields : (f : Format) (base n : ℕ) → base + loaderSymbolLength ≤ n → FieldInside (symbolLayout f .value) base n × FieldInside (symbolLayout f .scnum) base n
+entry-fields Xcoff32 base n h = (omega arith, omega arith)
+entry-fields Xcoff64 base n h = (omega arith, omega arith)
 
-pub entry-inside : (f : Format) {l : SymbolLayout} (base n : ℕ) → l ≡ symbolLayout f → base + loaderSymbolLength ≤ n → FieldInside (l .value) base n × FieldInside (l .scnum) base n × FieldInside (l .name) base n
+pub entry-inside : (f : Format) {l : SymbolLayout} (base n : ℕ) → l ≡ symbolLayout f → base + loaderSymbolLength ≤ n → FieldInside (l .value) base n × FieldInside (l .scnum) base n
 entry-inside f base n e h = rw e (entry-fields f base n h)

@@ -12,7 +12,7 @@ use Rattle.format.specs.declared.Format.{Format}
 use Rattle.format.specs.declared.FileRange.{FileRange}
 use Rattle.format.specs.declared.NameField.{NameField}
 use Rattle.format.specs.declared.NameField.the-variants.{Short, Offset}
-use Rattle.format.specs.Layout.{symbolLayout, loaderSymbolLength}
+use Rattle.format.specs.Layout.{symbolLayout, shortName, loaderSymbolLength}
 use Rattle.format.specs.Limit.{fileLimit, loaderSymbolLimit}
 use Rattle.format.specs.Name.{nameField}
 use Rattle.format.specs.Range.{range, textIn}
@@ -60,9 +60,9 @@ stringIn file strings o i =
     (Refused (Lsym i))))
 
 -- where the name of the loader symbol at base lies; i is its index, from 3
-unfoldable pub nameIn : List ℕ → Format → FileRange → ℕ → ℕ → NameField → RangeAnswer
-nameIn file f strings base i Short = Found (textIn (symbolLayout f .name) base file)
-nameIn file f strings base i (Offset o) = stringIn file strings o i
+unfoldable pub nameIn : List ℕ → FileRange → ℕ → ℕ → NameField → RangeAnswer
+nameIn file strings base i Short = Found (textIn shortName base file)
+nameIn file strings base i (Offset o) = stringIn file strings o i
 
 abbrev pub isFound : RangeAnswer → Bool
 isFound (Found r) = true
@@ -82,7 +82,7 @@ isPlaced p nimpid e =
 -- LSYM: the type's low bits are above 3, or it is not placed, or its name lies nowhere
 unfoldable pub entryCheck : List ℕ → Format → Parts → LoaderTables → ℕ → LoaderEntry → Verdict
 entryCheck file f p t k e =
-    refuseIf (not (ltb (e .smtype % 8) 4 && isPlaced p (t .nimpid) e && isFound (nameIn file f (t .strings) (entryStart t k) (k + 3) (e .name)))) (Lsym (k + 3))
+    refuseIf (not (ltb (e .smtype % 8) 4 && isPlaced p (t .nimpid) e && isFound (nameIn file (t .strings) (entryStart t k) (k + 3) (e .name)))) (Lsym (k + 3))
 
 -- the loader symbol with place k in the table, which is index k + 3
 unfoldable pub symbolCheck : List ℕ → Format → Parts → LoaderTables → ℕ → Verdict

@@ -80,20 +80,17 @@ fn string_range(file: &[u8], strings: FileRange, o: u64, i: u64) -> RangeAnswer
 // Where the name of the loader symbol at `base` lies.
 pub fn name_range(
     file: &[u8],
-    f: Format,
     strings: FileRange,
     base: usize,
     i: u64,
     name: NameField,
 ) -> RangeAnswer
     requires { ⌜ (strings .start .0 + strings .length ≤ length (now file)) × (base + loaderSymbolLength ≤ length (now file)) ⌝ }
-    ensures { λ r. ⌜ r ≡ nameIn (now (file .entry)) f strings base i name ⌝ }
+    ensures { λ r. ⌜ r ≡ nameIn (now (file .entry)) strings base i name ⌝ }
 {
     match name {
         NameField::Short => {
-            let l = format::symbol_layout(f);
-            let place = l.name;
-            RangeAnswer::Found(format::text_in(file, base, place))
+            RangeAnswer::Found(format::text_in(file, base, format::short_name()))
         }
         NameField::Offset(o) => string_range(file, strings, o, i),
     }
@@ -161,7 +158,7 @@ pub fn check_symbol(file: &[u8], f: Format, p: Parts, t: LoaderTables, k: u64) -
     }
     let strings = t.strings;
     let name = e.name;
-    let a = name_range(file, f, strings, base, k + 3, name);
+    let a = name_range(file, strings, base, k + 3, name);
     if is_found(a) {
         return Verdict::Accepted;
     }

@@ -36,6 +36,6 @@ module _ (file : List ℕ) (l : Loadable) (k : ℕ) (found : loadableAt file ≡
   unfolding loaderSymbolAt symbolIn entryOf
   symbol-found q = rw (found, index-in (l .tables) k h, add-sub-cancel k 3, q) refl
 
-  pub name-found : {e : LoaderEntry} {n : RangeAnswer} → e ≡ entryAt (l .layout .format) (entryStart (l .tables) k) file → n ≡ nameIn file (l .layout .format) (l .tables .strings) (entryStart (l .tables) k) (k + 3) (e .name) → loaderNameAt file (k + 3) ≡ n
+  pub name-found : {e : LoaderEntry} {n : RangeAnswer} → e ≡ entryAt (l .layout .format) (entryStart (l .tables) k) file → n ≡ nameIn file (l .tables .strings) (entryStart (l .tables) k) (k + 3) (e .name) → loaderNameAt file (k + 3) ≡ n
   unfolding loaderNameAt symbolNameIn nameOf entryOf
   name-found q p = rw (found, index-in (l .tables) k h, add-sub-cancel k 3, p, q) refl

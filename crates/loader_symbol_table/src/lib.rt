@@ -26,7 +26,7 @@ fn loader_symbol_row(file: &[u8], l: Loadable, k: u64) -> [u64; 9]
     let base = (symbols.0 + k * format::LOADER_SYMBOL_LENGTH) as usize;
     let e = loader_symbol::read_entry(file, f, base);
     let field = e.name;
-    let name = refusal::report_range(loader_symbol::name_range(file, f, strings, base, i, field));
+    let name = refusal::report_range(loader_symbol::name_range(file, strings, base, i, field));
     [
         i,
         e.value,

@@ -12,10 +12,9 @@ use Rattle.word.specs.Test.{past}
 use Rattle.word.specs.Zero.{firstZero}
 use Rattle.word.proofs.Test.{either, past-not, or-first, or-second}
 use Rattle.format.specs.declared.FileRange.{FileRange}
-use Rattle.format.specs.declared.Format.{Format}
 use Rattle.format.specs.declared.NameField.{NameField}
 use Rattle.format.specs.declared.NameField.the-variants.{Short, Offset}
-use Rattle.format.specs.Layout.{symbolLayout, loaderSymbolLength}
+use Rattle.format.specs.Layout.{shortName, loaderSymbolLength}
 use Rattle.format.proofs.Ranges.{text-inside}
 use Rattle.refusal.specs.declared.RangeAnswer.the-variants as range
 use Rattle.refusal.specs.declared.Verdict.{Verdict}
@@ -25,7 +24,6 @@ use Rattle.refusal.proofs.Report.{range-inside}
 use Rattle.refusal.proofs.Order.{accepted-test}
 use Rattle.loader_header.specs.declared.LoaderTables.{LoaderTables}
 use Rattle.loader_symbol.specs.Symbol.{entryStart, stringIn, nameIn, TablesInside}
-use Rattle.loader_header.proofs.Places.{entry-inside}
 use Rattle.loadable.specs.declared.Loadable.{Loadable}
 use Rattle.loadable.specs.declared.LoadableAnswer.{LoadableAnswer}
 use Rattle.loadable.specs.declared.LoadableAnswer.the-variants as loadable
@@ -65,17 +63,17 @@ string-within file strings o i h =
     (λ p. either (Within (length file)) (eqb (firstZero (take n (drop (strings .start .0 + o) file))) (n - 1))
     (λ _. let k = past-not o n (strings .length) (or-second empty far p) in omega arith) (λ _. tt)))
 
-name-in-file : (file : List ℕ) (f : Format) (strings : FileRange) (base i : ℕ) (n : NameField) → strings .start .0 + strings .length ≤ length file → base + loaderSymbolLength ≤ length file → Within (length file) (nameIn file f strings base i n)
+name-in-file : (file : List ℕ) (strings : FileRange) (base i : ℕ) (n : NameField) → strings .start .0 + strings .length ≤ length file → base + loaderSymbolLength ≤ length file → Within (length file) (nameIn file strings base i n)
 unfolding nameIn
-name-in-file file f strings base i Short h k = text-inside (symbolLayout f .name) base file (entry-inside f base (length file) refl k .2)
-name-in-file file f strings base i (Offset o) h k = string-within file strings o i h
+name-in-file file strings base i Short h k = text-inside shortName base file (omega arith)
+name-in-file file strings base i (Offset o) h k = string-within file strings o i h
 
 by-index : (file : List ℕ) (l : Loadable) (i : ℕ) (v : Verdict) → indexCheck (l .tables) i ≡ v → Valid file l → Within (length file) (byVerdict v (nameOf file l i) range.Refused)
 unfolding nameOf
 by-index file l i (verdict.Refused x) e h = tt
 by-index file l i verdict.Accepted e h =
     let t = h .loader .tables in
-    name-in-file file (l .layout .format) (l .tables .strings) (entryStart (l .tables) (i - 3)) i (entryOf file l i .name) (t .strings) (entry-in-file file (l .tables) i t e)
+    name-in-file file (l .tables .strings) (entryStart (l .tables) (i - 3)) i (entryOf file l i .name) (t .strings) (entry-in-file file (l .tables) i t e)
 
 by-answer : (file : List ℕ) (i : ℕ) (a : LoadableAnswer) → loadableAt file ≡ a → Within (length file) (symbolNameIn file a i)
 unfolding symbolNameIn

@@ -39,7 +39,7 @@ loaderSymbolAt file i = symbolIn file (loadableAt file) i
 
 -- where its name lies, without its closing zero
 unfoldable pub nameOf : List ℕ → Loadable → ℕ → RangeAnswer
-nameOf file l i = nameIn file (l .layout .format) (l .tables .strings) (entryStart (l .tables) (i - 3)) i (entryOf file l i .name)
+nameOf file l i = nameIn file (l .tables .strings) (entryStart (l .tables) (i - 3)) i (entryOf file l i .name)
 
 unfoldable pub symbolNameIn : List ℕ → LoadableAnswer → ℕ → RangeAnswer
 symbolNameIn file (loadable.Refused x) i = range.Refused x

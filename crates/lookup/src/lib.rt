@@ -98,7 +98,7 @@ pub fn loader_symbol_name_range(file: &[u8], i: u64) -> RangeAnswer
                     let base = entry_base(t, i);
                     let e = loader_symbol::read_entry(file, f, base);
                     let name = e.name;
-                    loader_symbol::name_range(file, f, strings, base, i, name)
+                    loader_symbol::name_range(file, strings, base, i, name)
                 }
             }
         }

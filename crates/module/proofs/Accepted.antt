@@ -1,4 +1,4 @@
--- What an accepted module guarantees, for the crates above. Assumes nothing.
+-- The order of MODULE 1 and THREAD, and what an accepted module guarantees, for the crates above. Assumes nothing.
 use Prim.Native.Nat.{ℕ, _-_, _≤_, _<_}
 use mathlib.Core.Path.{_≡_, refl, subst}
 use mathlib.Core.Bool.{true, false, not, _&&_, _||_}
@@ -7,9 +7,11 @@ use native.Mathlib.Decide.{ℕ-discrete}
 use native.Mathlib.Omega.{arith}
 use lib.Dec.{ltb}
 use lib.ListN.{length, getD}
-use borrow.Author.Tests.{ne-eqb, not-false}
+use borrow.Author.Tests.{le-ltb, ne-eqb, not-false}
 use Rattle.word.proofs.Test.{and-first, and-second, or-first, or-second}
 use Rattle.format.specs.Layout.{auxLayout}
+use Rattle.refusal.specs.declared.Refusal.the-variants as refusal
+use Rattle.refusal.specs.declared.ModuleItem.the-variants.{SectionSet}
 use Rattle.refusal.specs.declared.Verdict.the-variants as verdict
 use Rattle.refusal.specs.Order.{refuseIf}
 use Rattle.refusal.proofs.Order.{accepted-first, accepted-rest, accepted-test, by-verdict}
@@ -29,6 +31,12 @@ use Rattle.module.specs.Module.{lacksData, isAnchor, bssBelow, imageLeng
 use Rattle.module.specs.Inside.{PartInside, ModuleInside}
 use Rattle.parts.proofs.Tallied.{each-known}
 use Rattle.module.proofs.Extent.{bss-after, image-plain, image-bss, parts-image}
+
+-- MODULE 1 is given whatever THREAD would say
+pub set-before-thread : (file : List ℕ) (y : Summary) → auxLayout (y .format) .length ≤ y .opthdr → oneEach (talliesOf y) ≡ false
+    → moduleCheck file y ≡ verdict.Refused (refusal.Module SectionSet)
+unfolding moduleCheck
+set-before-thread file y a e = rw (le-ltb (y .opthdr) (auxLayout (y .format) .length) a, e) refl
 
 -- a section among those of an accepted file, with bytes only where it has raw data
 part-in : (file : List ℕ) (y : Summary) → Inside file y → (n : ℕ) → 0 < n → n ≤ y .count → lacksData (partAt (y .sections) n) ≡ false → PartInside (length file) (partAt (y .sections) n)

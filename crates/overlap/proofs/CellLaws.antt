@@ -15,9 +15,9 @@ use Rattle.parts.specs.declared.Parts.{Parts}
 use Rattle.loader_header.specs.declared.LoaderTables.{LoaderTables}
 use Rattle.relocation.specs.declared.FieldPlace.{FieldPlace}
 use Rattle.relocation.specs.Relocation.{bytesWide, placeAt}
-use Rattle.clash.proofs.Readable.{sizeOf, room}
-use Rattle.clash.proofs.Rule.{no-true, no-false, same-true, same-refl}
-use Rattle.clash.specs.Overlap.{sameBool, Meets, First, Readable}
+use Rattle.field_overlap.proofs.Readable.{sizeOf, room}
+use Rattle.field_overlap.proofs.Rule.{no-true, no-false, same-true, same-refl}
+use Rattle.field_overlap.specs.Overlap.{sameBool, Meets, First, Readable}
 use Rattle.overlap.specs.Cells.{code, Taken, Stored, ByteOut, Marked, Free, MarkOut, cover, Hit, CellsAre, StepOut, Untouched, LowerOut, PassOut, NoHitAt, HitSomewhere, SweepOut}
 
 module _ (base k v : ℕ) (c : List ℕ) where
@@ -278,7 +278,7 @@ module _ (r : ℕ → FieldPlace) where
       record {
         other = w .which;
         earlier = w .before;
-        clash = record {
+        overlap = record {
           section = w .section ∙ sym (h .section);
           byte = k;
           inA = (w .low, w .high);
@@ -289,7 +289,7 @@ module _ (r : ℕ → FieldPlace) where
         };
       }
 
-  meets-hit : (i : ℕ) → ((j : ℕ) → j < i → Meets r j → ⊥) → (m : Meets r i) (base size : ℕ) → base ≤ m .clash .byte → m .clash .byte - base < size
+  meets-hit : (i : ℕ) → ((j : ℕ) → j < i → Meets r j → ⊥) → (m : Meets r i) (base size : ℕ) → base ≤ m .overlap .byte → m .overlap .byte - base < size
       → Hit r (r i .text) base size i
   meets-hit i none m base size a b =
       record {
@@ -298,32 +298,32 @@ module _ (r : ℕ → FieldPlace) where
         low = omega (arith, inB);
         from = omega (arith, inB);
         upto = omega (arith, inB);
-        some = λ z. cover-some r (r i .text) i j k (m .earlier) (m .clash .section) (m .clash .inA .0) (m .clash .inA .1) (ap (cover r (r i .text) i) (sym there) ∙ z);
+        some = λ z. cover-some r (r i .text) i j k (m .earlier) (m .overlap .section) (m .overlap .inA .0) (m .overlap .inA .1) (ap (cover r (r i .text) i) (sym there) ∙ z);
         other = λ z. other (ap (cover r (r i .text) i) (sym there) ∙ z);
       }
     where
       k : ℕ
-      k = m .clash .byte
+      k = m .overlap .byte
 
       j : ℕ
       j = m .other
 
       inB : (r i .offset ≤ k) × (k < r i .offset + bytesWide (r i .wide))
-      inB = m .clash .inB
+      inB = m .overlap .inB
 
       there : r i .offset + (k - r i .offset) ≡ k
       there = omega (arith, inB)
 
       two : (x : ℕ) → x < i → r x .text ≡ r i .text → (r x .offset ≡ r i .offset) → (r x .wide ≡ r i .wide) → r x .offset ≤ k → k < r x .offset + bytesWide (r x .wide) → Dec (x < j) → Dec (j < x) → ⊥
-      two x h e o w a b (yes l) v = none j (m .earlier) (record { other = x; earlier = l; clash = record { section = e ∙ sym (m .clash .section); byte = k; inA = (a, b); inB = m .clash .inA; differ = λ d. m .clash .differ (sym (d .0) ∙ o, sym (d .1) ∙ w) } })
-      two x h e o w a b (no l) (yes v) = none x h (record { other = j; earlier = v; clash = record { section = m .clash .section ∙ sym e; byte = k; inA = m .clash .inA; inB = (a, b); differ = λ d. m .clash .differ (d .0 ∙ o, d .1 ∙ w) } })
+      two x h e o w a b (yes l) v = none j (m .earlier) (record { other = x; earlier = l; overlap = record { section = e ∙ sym (m .overlap .section); byte = k; inA = (a, b); inB = m .overlap .inA; differ = λ d. m .overlap .differ (sym (d .0) ∙ o, sym (d .1) ∙ w) } })
+      two x h e o w a b (no l) (yes v) = none x h (record { other = j; earlier = v; overlap = record { section = m .overlap .section ∙ sym e; byte = k; inA = m .overlap .inA; inB = (a, b); differ = λ d. m .overlap .differ (d .0 ∙ o, d .1 ∙ w) } })
       two x h e o w a b (no l) (no v) =
           let q : x ≡ j = omega arith in
-          m .clash .differ (ap (λ (y : ℕ). r y .offset) (sym q) ∙ o, ap (λ (y : ℕ). r y .wide) (sym q) ∙ w)
+          m .overlap .differ (ap (λ (y : ℕ). r y .offset) (sym q) ∙ o, ap (λ (y : ℕ). r y .wide) (sym q) ∙ w)
 
       other : cover r (r i .text) i k ≡ code (r i .wide) (k - r i .offset) → ⊥
       other z =
-          let s = cover-some r (r i .text) i j k (m .earlier) (m .clash .section) (m .clash .inA .0) (m .clash .inA .1) in
+          let s = cover-some r (r i .text) i j k (m .earlier) (m .overlap .section) (m .overlap .inA .0) (m .overlap .inA .1) in
           let w = cover-last r (r i .text) i k s in
           let c = code-inj (r (w .which) .wide) (r i .wide) (k - r (w .which) .offset) (k - r i .offset) (omega (arith, w .low, w .high)) (omega (arith, inB)) (sym (w .value) ∙ z) in
           two (w .which) (w .before) (w .section) (omega (arith, w .low, inB, c .1)) (c .0) (w .low) (w .high) (decLt (w .which) j) (decLt j (w .which))
@@ -339,7 +339,7 @@ module _ (r : ℕ → FieldPlace) where
       before : (b i : ℕ) → i < b → i < x → Meets r i → ⊥
       before zero i u l m = omega arith
       before (suc b) i u l m =
-          let y = below i l (m .clash .byte) (m .clash .inB .0) (m .clash .inB .1) in
+          let y = below i l (m .overlap .byte) (m .overlap .inB .0) (m .overlap .inB .1) in
           y .none (meets-hit i (λ j v. before b j (omega arith) (omega arith)) m (y .base) (y .size) (y .low) (y .high))
 
 pub zero-turn : (c : List ℕ) (i : ℕ) → i < length c → ((x : ℕ) → x < i → getD c x 0 ≡ 0) → (x : ℕ) → x < i + 1 → getD (set c i 0) x 0 ≡ 0

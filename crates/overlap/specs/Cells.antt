@@ -1,4 +1,4 @@
--- What the cells hold: one cell for each byte of a window, 0 or the place of the byte in the one field that covers it.
+-- Serves internal contracts only: the search over windows. One cell for each byte of a window, 0 or the place of the byte in the one field that covers it.
 use mathlib.Core.Path.{_≡_}
 use mathlib.Core.Logic.{_⊎_}
 use mathlib.Core.Bool.{Bool, true, false, _&&_, cond}
@@ -8,7 +8,7 @@ use lib.ListN.{length, getD}
 use lib.Dec.{leb, ltb}
 use Rattle.relocation.specs.declared.FieldPlace.{FieldPlace}
 use Rattle.relocation.specs.Relocation.{bytesWide}
-use Rattle.clash.specs.Overlap.{sameBool}
+use Rattle.field_overlap.specs.Overlap.{sameBool}
 
 -- the value of the byte at place p of a field: no two places of fields, and no two widths, have one value
 abbrev pub code : Bool → ℕ → ℕ

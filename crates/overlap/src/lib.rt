@@ -4,7 +4,7 @@ ghost use Prim.Native.Nat.{_+_, _≤_, _<_};
 ghost use lib.ListN.{length};
 ghost use Rattle.format.specs.Limit.{fileLimit};
 ghost use Rattle.relocation.specs.Relocation.{placeAt};
-ghost use Rattle.clash.specs.Overlap.{sameBool, First, Readable};
+ghost use Rattle.field_overlap.specs.Overlap.{sameBool, First, Readable};
 ghost use Rattle.overlap.specs.Cells.{code, ByteOut, MarkOut, Zeros, EntryOut, LowerOut, PassOut, SweepOut};
 use format::Format;
 use loader_header::LoaderTables;
@@ -53,7 +53,7 @@ fn mark(cells: &mut [u8], base: u64, offset: u64, wide: bool) -> bool
     requires { ⌜ offset ≤ fileLimit ⌝ }
     ensures { λ r. ⌜ MarkOut base offset wide (now (cells .entry)) (now (cells .exit)) r ⌝ }
 {
-    let w = clash::bytes_wide(wide);
+    let w = relocation::bytes_wide(wide);
     let mut place = 0;
     while place < w {
         let v = code_of(wide, place);
@@ -102,7 +102,7 @@ fn lower(e: FieldPlace, text: bool, end: u64, next: u64) -> u64
     if !same_section(e.text, text) {
         return next;
     }
-    if e.offset + clash::bytes_wide(e.wide) <= end {
+    if e.offset + relocation::bytes_wide(e.wide) <= end {
         return next;
     }
     if next <= e.offset {
@@ -206,7 +206,7 @@ pub fn first_overlap(file: &[u8], f: Format, p: Parts, t: LoaderTables, n: u64) 
     requires { ⌜ Readable (now file) f p t n ⌝ }
     ensures { λ r. ⌜ First (placeAt (now (file .entry)) f p t) n r ⌝ }
 {
-    if clash::are_ascending(file, f, p, t, n) {
+    if field_overlap::are_ascending(file, f, p, t, n) {
         return n;
     }
     sweep_windows(file, f, p, t, n)

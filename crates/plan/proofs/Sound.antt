@@ -6,7 +6,7 @@ use Prim.Native.Nat.{ℕ, zero, suc, _+_, _≤_, _<_}
 use native.Mathlib.Omega.{arith}
 use Rattle.refusal.specs.declared.Refusal.{Refusal}
 use Rattle.relocation.specs.Relocation.{placeAt}
-use Rattle.clash.specs.Overlap.{Compatible}
+use Rattle.field_overlap.specs.Overlap.{Compatible}
 use Rattle.loadable.specs.declared.Loadable.{Loadable}
 use Rattle.loadable.specs.declared.LoadableAnswer.{LoadableAnswer}
 use Rattle.loadable.specs.declared.LoadableAnswer.the-variants as loadable

@@ -1,6 +1,7 @@
 -- The first refusal in an order of checks, and of a table. Assumes nothing.
 use mathlib.Core.Path.{_≡_, refl, sym, _∙_, ap}
 use mathlib.Core.Bool.{Bool, true, false, not}
+use mathlib.Core.List.{List, [], _∷_}
 use Prim.Native.Nat.{ℕ, zero, suc, _+_, _-_, _≤_, _<_}
 use native.Mathlib.Decide.{ℕ-discrete}
 use native.Mathlib.Numerals.{add-one}
@@ -10,7 +11,7 @@ use Rattle.refusal.specs.declared.Refusal.{Refusal}
 use Rattle.refusal.specs.declared.Verdict.{Verdict}
 use Rattle.refusal.specs.declared.Verdict.the-variants.{Accepted, Refused}
 use Rattle.refusal.specs.Refusal.{isRefused}
-use Rattle.refusal.specs.Order.{_orElse_, refuseIf, firstOf, byVerdict}
+use Rattle.refusal.specs.Order.{_orElse_, refuseIf, firstRefusal, firstOf, byVerdict}
 use lib.Dec.{eqb, ltb}
 use borrow.Author.Tests.{eqb-true, not-false, ltb-false}
 
@@ -69,6 +70,24 @@ accepted-equal a b x e = eqb-true a b (not-false (eqb a b) (accepted-test (not (
 
 pub accepted-most : (a b : ℕ) (x : Refusal) → refuseIf (ltb a b) x ≡ Accepted → b ≤ a
 accepted-most a b x e = ltb-false a b (accepted-test (ltb a b) x e)
+
+-- the last verdict of an order stands for itself
+pub accepted-last : (v : Verdict) → v ≡ (v orElse Accepted)
+accepted-last Accepted = refl
+accepted-last (Refused x) = refl
+
+-- a list of checks accepts exactly where each of them does
+abbrev pub EachAccepts : List Verdict → Type 0
+EachAccepts [] = Unit {0}
+EachAccepts (v ∷ vs) = (v ≡ Accepted) × EachAccepts vs
+
+pub each-accepts : (vs : List Verdict) → firstRefusal vs ≡ Accepted → EachAccepts vs
+each-accepts [] e = tt
+each-accepts (v ∷ vs) e = (accepted-first v (firstRefusal vs) e, each-accepts vs (accepted-rest v (firstRefusal vs) e))
+
+pub all-accept : (vs : List Verdict) → EachAccepts vs → firstRefusal vs ≡ Accepted
+all-accept [] e = refl
+all-accept (v ∷ vs) e = rw (e .0) (all-accept vs (e .1))
 
 -- what holds of both outcomes of a verdict holds of what is given by it
 pub by-verdict : {A : Type 0} (P : A → Type 0) (v : Verdict) {a : A} {f : Refusal → A} → (v ≡ Accepted → P a) → ((x : Refusal) → P (f x)) → P (byVerdict v a f)

@@ -1,6 +1,7 @@
 -- The first refusal in an order of checks.
 use Prim.Native.Nat.{ℕ, zero, suc}
 use mathlib.Core.Bool.{Bool, true, false}
+use mathlib.Core.List.{List, [], _∷_}
 use Rattle.refusal.specs.declared.Refusal.{Refusal}
 use Rattle.refusal.specs.declared.Verdict.{Verdict}
 use Rattle.refusal.specs.declared.Verdict.the-variants.{Accepted, Refused}
@@ -24,6 +25,11 @@ byVerdict (Refused x) a f = f x
 -- the same, whatever the refusal is
 abbrev pub ifAccepted : {A : Type 0} → Verdict → A → A → A
 ifAccepted v a b = byVerdict v a (λ x. b)
+
+-- the first refusal of a list of checks
+abbrev pub firstRefusal : List Verdict → Verdict
+firstRefusal [] = Accepted
+firstRefusal (v ∷ vs) = v orElse firstRefusal vs
 
 -- the first refusal of the checks of a table's entries i, i + 1, .., n of them
 unfoldable pub firstOf : (ℕ → Verdict) → ℕ → ℕ → Verdict

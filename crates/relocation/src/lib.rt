@@ -82,7 +82,8 @@ fn is_width(f: Format, bits: u64) -> bool
     }
 }
 
-fn bytes_wide(wide: bool) -> u64
+// How many bytes a field has.
+pub fn bytes_wide(wide: bool) -> u64
     ensures value { λ r. ⌜ r ≡ bytesWide wide ⌝ }
     ensures bound { λ r. ⌜ r ≤ 8 ⌝ }
 {

@@ -2,7 +2,6 @@
 ghost use mathlib.Core.Path.{_≡_};
 ghost use Prim.Native.Nat.{_*_, _<_};
 ghost use lib.ListN.{length};
-ghost use Rattle.relocation.specs.Relocation.{bytesWide};
 ghost use Rattle.loadable.specs.Valid.{Valid};
 ghost use Rattle.rows.specs.Rows.{rowsOf};
 ghost use Rattle.module_table.specs.Table.{checkBy, tableCheck, rowsBy, tableAfter};
@@ -12,15 +11,6 @@ ghost use Rattle.refusal.specs.Refusal.{reportHead};
 use loadable::Loadable;
 use loadable::LoadableAnswer;
 use refusal::Verdict;
-
-fn bytes_wide(wide: bool) -> u64
-    ensures { λ r. ⌜ r ≡ bytesWide wide ⌝ }
-{
-    if wide {
-        return 8;
-    }
-    4
-}
 
 // The row of relocation entry `i`.
 fn relocation_row(file: &[u8], l: Loadable, i: u64) -> [u64; 8]
@@ -41,7 +31,7 @@ fn relocation_row(file: &[u8], l: Loadable, i: u64) -> [u64; 8]
         e.scnum,
         refusal::one_if(place.text),
         place.offset,
-        bytes_wide(place.wide),
+        relocation::bytes_wide(place.wide),
         refusal::one_if(r.minus),
     ]
 }

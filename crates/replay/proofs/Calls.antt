@@ -6,9 +6,7 @@ use native.Mathlib.Decide.{ℕ-discrete}
 use native.Mathlib.Omega.{arith}
 use lib.ListN.{length, getD}
 use borrow.Author.Tests.{eq-eqb, ne-eqb}
-use Rattle.history.specs.Images.{Images}
-use Rattle.history.specs.Plan.{Relocatable}
-use Rattle.history.specs.Call.{Call, effect, run}
+use Rattle.history.specs.Call.{Call}
 use Rattle.replay.specs.Script.{planEnd, callEnd, callAt, callsFrom, callsOf}
 use Rattle.replay.proofs.Ends.{plan-fits, call-none, call-build, call-move, call-inside, build-there, move-there}
 
@@ -26,34 +24,11 @@ module _ (s : List ℕ) where
   unfolding callsFrom
   calls-more n at nz = rw (ne-eqb (callEnd s at) 0 nz) refl
 
--- ---- running them: what the loop over a script needs
-
-module _ (m : Relocatable) (s : List ℕ) where
-  -- no call is at the place: nothing is left to run
-  pub calls-stop : (n at : ℕ) (x : Images) → callEnd s at ≡ 0 → x ≡ run m (callsFrom n s at) x
-  unfolding run
-  calls-stop n at x e = ap (λ (cs : List Call). run m cs x) (sym (calls-none s n at e))
-
-  -- no fuel is left
-  pub calls-out : (n at : ℕ) (x : Images) → n ≤ 0 → x ≡ run m (callsFrom n s at) x
-  unfolding callsFrom run
-  calls-out zero at x h = refl
-  calls-out (suc n) at x h = absurd (omega arith)
-
-  -- one call is run, and then those from its end
-  pub calls-next : (n at e f : ℕ) (x y : Images) → 0 < n → e ≡ callEnd s at → (e ≡ 0 → ⊥) → f ≡ callEnd s at → y ≡ effect m (callAt s at) x
-      → run m (callsFrom (n - 1) s f) y ≡ run m (callsFrom n s at) x
-  unfolding run
-  calls-next zero at e f x y h p nz p′ q = absurd (omega arith)
-  calls-next (suc n) at e f x y h p nz p′ q =
-      let k : suc n - 1 ≡ n = omega arith in
-      rw (k, p′, q) (ap (λ (cs : List Call). run m cs x) (sym (calls-more s n at (λ z. nz (p ∙ z)))))
-
 -- ---- fuel
 
 module _ (s : List ℕ) where
   -- a call ends after its start
-  call-longer : (at : ℕ) → (callEnd s at ≡ 0 → ⊥) → at < callEnd s at
+  pub call-longer : (at : ℕ) → (callEnd s at ≡ 0 → ⊥) → at < callEnd s at
   call-longer at nz = decide (ℕ-discrete (getD s at 0) 0)
     where
       decide : Dec (getD s at 0 ≡ 0) → at < callEnd s at
@@ -84,6 +59,15 @@ module _ (s : List ℕ) where
       decide (no e) rest =
           let l = call-longer at e in
           calls-more s n at e ∙ ap (λ (cs : List Call). callAt s at ∷ cs) (rest (omega arith) (omega arith)) ∙ sym (calls-more s k at e)
+
+  -- the calls from a place where one is: it, and those from its end
+  pub calls-on : (at : ℕ) → (callEnd s at ≡ 0 → ⊥) → callsFrom (length s) s at ≡ callAt s at ∷ callsFrom (length s) s (callEnd s at)
+  calls-on at nz =
+      let i = call-inside s at nz in
+      let l = call-longer at nz in
+      let n : length s ≡ suc (length s - 1) = omega arith in
+      ap (λ (k : ℕ). callsFrom k s at) n ∙ calls-more s (length s - 1) at nz
+      ∙ ap (λ (cs : List Call). callAt s at ∷ cs) (calls-same (length s - 1) (length s) (callEnd s at) (omega arith) (omega arith))
 
   -- more fuel gives no other calls: the calls of a script are all that stand in it
   pub calls-enough : (n : ℕ) → length s ≤ n → callsFrom n s 0 ≡ callsOf s

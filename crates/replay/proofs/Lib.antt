@@ -1,7 +1,9 @@
--- The laws of scripts: those that this crate's own proofs cite, and the theorem that every list of calls is the list of a script.
+-- The laws of scripts: those that this crate's own proofs cite, the theorem that every list of calls is the list of a script, and what the answer of a
+-- list tells.
 
 pub mod Ends
 pub mod Plans
 pub mod Calls
 pub mod Encode
 pub mod Book
+pub mod Answer

@@ -4,9 +4,10 @@ use mathlib.Core.List.{List}
 use Prim.Native.Nat.{ℕ, _+_, _-_, _≤_}
 use native.Mathlib.Omega.{arith}
 use lib.ListN.{length, getD, take, drop}
-use Rattle.history.specs.Images.{Images}
+use Rattle.history.specs.declared.CallAnswer.{CallAnswer}
+use Rattle.history.specs.Images.{images}
 use Rattle.history.specs.Plan.{Plan, Relocatable}
-use Rattle.history.specs.Call.{Call, build, move, effect}
+use Rattle.history.specs.Call.{Call, build, move, answerOf, effect}
 use Rattle.displacement.specs.declared.Addresses.{Addresses}
 use Rattle.displacement.specs.Reach.{planOf}
 use Rattle.replay.specs.Script.{planEnd, planAt}
@@ -46,19 +47,26 @@ module _ (s : List ℕ) (at : ℕ) where
   unfolding planAt
   plan-read a l h e = rw (h .0, h .1, e) refl
 
-module _ (m : Relocatable) (x y : Images) (s : List ℕ) (at : ℕ) where
-  -- a build for what was read is the build for the plan
-  pub built-plan : (a : Addresses) (l : List ℕ) → AddressesAt s at a → l ≡ planAt s at .list
-      → y ≡ effect m (build (planOf a l)) x → y ≡ effect m (build (planAt s at)) x
-  built-plan a l h e k = k ∙ ap (λ (p : Plan). effect m (build p) x) (plan-read s at a l h e)
+-- ---- the calls that were read
 
-  -- a move between what was read is the move between the two plans
-  pub moved-plans : (next : ℕ) (a b : Addresses) (l r : List ℕ) → next ≡ planEnd s at
-      → AddressesAt s at a → l ≡ planAt s at .list → AddressesAt s next b → r ≡ planAt s next .list
-      → y ≡ effect m (move (planOf a l) (planOf b r)) x → y ≡ effect m (move (planAt s at) (planAt s (planEnd s at))) x
-  moved-plans next a b l r n h e h′ e′ k =
-      k ∙ ap₂ (λ (p q : Plan). effect m (move p q) x) (plan-read s at a l h e) (plan-read s next b r h′ e′ ∙ ap (planAt s) n)
+-- a call on buffers of t and d is answered by a, and leaves t′ and d′
+abbrev pub Made : Relocatable → Call → List ℕ → List ℕ → CallAnswer → List ℕ → List ℕ → Type 0
+Made m c t d a t′ d′ = (a ≡ answerOf m (length t) (length d) c) × (images t′ d′ ≡ effect m c (images t d))
 
--- equal calls have one effect
-pub by-call : (m : Relocatable) (x y : Images) (c d : Call) → y ≡ effect m c x → c ≡ d → y ≡ effect m d x
-by-call m x y c d e p = e ∙ ap (λ (k : Call). effect m k x) p
+module _ (m : Relocatable) (t d : List ℕ) (a : CallAnswer) (t′ d′ : List ℕ) where
+  -- equal calls are answered alike and leave the same
+  pub by-call : (c k : Call) → Made m c t d a t′ d′ → c ≡ k → Made m k t d a t′ d′
+  by-call c k h e = (h .0 ∙ ap (answerOf m (length t) (length d)) e, h .1 ∙ ap (λ (c : Call). effect m c (images t d)) e)
+
+  module _ (s : List ℕ) (at : ℕ) where
+    -- a build for what was read is the build for the plan
+    pub built-plan : (b : Addresses) (l : List ℕ) → AddressesAt s at b → l ≡ planAt s at .list
+        → Made m (build (planOf b l)) t d a t′ d′ → Made m (build (planAt s at)) t d a t′ d′
+    built-plan b l h e k = by-call _ _ k (ap build (plan-read s at b l h e))
+
+    -- a move between what was read is the move between the two plans
+    pub moved-plans : (next : ℕ) (b b′ : Addresses) (l l′ : List ℕ) → next ≡ planEnd s at
+        → AddressesAt s at b → l ≡ planAt s at .list → AddressesAt s next b′ → l′ ≡ planAt s next .list
+        → Made m (move (planOf b l) (planOf b′ l′)) t d a t′ d′ → Made m (move (planAt s at) (planAt s (planEnd s at))) t d a t′ d′
+    moved-plans next b b′ l l′ n h e h′ e′ k =
+        by-call _ _ k (ap₂ (λ (p q : Plan). move p q) (plan-read s at b l h e) (plan-read s next b′ l′ h′ e′ ∙ ap (planAt s) n))

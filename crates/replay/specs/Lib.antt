@@ -1,2 +1,3 @@
 -- What the contract of `replay` cites.
 pub mod Script
+pub mod Answer

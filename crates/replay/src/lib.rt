@@ -3,13 +3,36 @@ ghost use mathlib.Core.Path.{_≡_};
 ghost use Prim.Native.Nat.{_+_, _≤_};
 ghost use lib.ListN.{length, getD};
 ghost use Rattle.history.specs.Images.{images};
-ghost use Rattle.history.specs.Call.{Call, build, move, effect};
+ghost use Rattle.history.specs.Call.{Call, build, move, answerOf, effect};
 ghost use Rattle.history.specs.Book.{bookImages, bookAfter};
 ghost use Rattle.plan.specs.Relocatable.{relocatableAt};
 ghost use Rattle.replay.specs.Script.{planEnd, planAt, callEnd, callAt, callsOf};
+ghost use Rattle.replay.specs.Answer.{acceptedOne, replayAnswer, reportOfReplay};
 use displacement::Addresses;
 use format::VirtualAddress;
+use history::AnchorAddress;
 use history::CallAnswer;
+use history::Reached;
+use refusal::Head;
+
+// How many calls were run, how many of them were accepted, and the last one's own answer.
+pub struct ReplayAnswer {
+    pub calls: u64,
+    pub accepted: u64,
+    pub last: CallAnswer,
+}
+
+// The last call's answer, as `image::CallReport` has it, and the counts.
+#[repr(C)]
+pub struct ReplayReport {
+    pub head: Head,
+    pub has_entry: u64,
+    pub entry: u64,
+    pub has_toc: u64,
+    pub toc: u64,
+    pub calls: u64,
+    pub accepted: u64,
+}
 
 // ---- the script
 
@@ -73,7 +96,8 @@ fn imports_at<'a>(s: &'a [u64], at: usize) -> &'a [u64]
 // Builds for the plan at a place.
 fn do_build(file: &[u8], s: &[u64], at: usize, text: &mut [u8], data: &mut [u8]) -> CallAnswer
     requires { ⌜ (planEnd (now s) at ≡ 0 → ⊥) ⌝ }
-    ensures { λ _. ⌜ images (now (text .exit)) (now («data» .exit)) ≡ effect (relocatableAt (now (file .entry))) (build (planAt (now (s .entry)) at)) (images (now (text .entry)) (now («data» .entry))) ⌝ }
+    ensures cause { λ r. ⌜ r ≡ answerOf (relocatableAt (now (file .entry))) (length (now (text .entry))) (length (now («data» .entry))) (build (planAt (now (s .entry)) at)) ⌝ }
+    ensures images { λ _. ⌜ images (now (text .exit)) (now («data» .exit)) ≡ effect (relocatableAt (now (file .entry))) (build (planAt (now (s .entry)) at)) (images (now (text .entry)) (now («data» .entry))) ⌝ }
 {
     let addresses = addresses_at(s, at);
     let imports = imports_at(s, at);
@@ -83,7 +107,8 @@ fn do_build(file: &[u8], s: &[u64], at: usize, text: &mut [u8], data: &mut [u8])
 // Moves from the plan at a place to the one after it.
 fn do_move(file: &[u8], s: &[u64], at: usize, text: &mut [u8], data: &mut [u8]) -> CallAnswer
     requires { ⌜ (planEnd (now s) at ≡ 0 → ⊥) × (planEnd (now s) (planEnd (now s) at) ≡ 0 → ⊥) ⌝ }
-    ensures { λ _. ⌜ images (now (text .exit)) (now («data» .exit)) ≡ effect (relocatableAt (now (file .entry))) (move (planAt (now (s .entry)) at) (planAt (now (s .entry)) (planEnd (now (s .entry)) at))) (images (now (text .entry)) (now («data» .entry))) ⌝ }
+    ensures cause { λ r. ⌜ r ≡ answerOf (relocatableAt (now (file .entry))) (length (now (text .entry))) (length (now («data» .entry))) (move (planAt (now (s .entry)) at) (planAt (now (s .entry)) (planEnd (now (s .entry)) at))) ⌝ }
+    ensures images { λ _. ⌜ images (now (text .exit)) (now («data» .exit)) ≡ effect (relocatableAt (now (file .entry))) (move (planAt (now (s .entry)) at) (planAt (now (s .entry)) (planEnd (now (s .entry)) at))) (images (now (text .entry)) (now («data» .entry))) ⌝ }
 {
     let next = plan_end(s, at);
     let from = addresses_at(s, at);
@@ -93,10 +118,11 @@ fn do_move(file: &[u8], s: &[u64], at: usize, text: &mut [u8], data: &mut [u8]) 
     image::move_images(file, from, from_imports, to, to_imports, text, data)
 }
 
-// Makes the call at a place, and gives its answer.
+// Makes the call at a place.
 fn answer_call(file: &[u8], s: &[u64], at: usize, text: &mut [u8], data: &mut [u8]) -> CallAnswer
     requires { ⌜ (callEnd (now s) at ≡ 0 → ⊥) ⌝ }
-    ensures { λ _. ⌜ images (now (text .exit)) (now («data» .exit)) ≡ effect (relocatableAt (now (file .entry))) (callAt (now (s .entry)) at) (images (now (text .entry)) (now («data» .entry))) ⌝ }
+    ensures cause { λ r. ⌜ r ≡ answerOf (relocatableAt (now (file .entry))) (length (now (text .entry))) (length (now («data» .entry))) (callAt (now (s .entry)) at) ⌝ }
+    ensures images { λ _. ⌜ images (now (text .exit)) (now («data» .exit)) ≡ effect (relocatableAt (now (file .entry))) (callAt (now (s .entry)) at) (images (now (text .entry)) (now («data» .entry))) ⌝ }
 {
     if s[at] == 0 {
         return do_build(file, s, at + 1, text, data);
@@ -104,27 +130,67 @@ fn answer_call(file: &[u8], s: &[u64], at: usize, text: &mut [u8], data: &mut [u
     do_move(file, s, at + 1, text, data)
 }
 
-// Makes the call at a place, and gives where it ends: the list goes on there, whatever the answer.
-fn do_call(file: &[u8], s: &[u64], at: usize, text: &mut [u8], data: &mut [u8]) -> usize
-    requires { ⌜ (callEnd (now s) at ≡ 0 → ⊥) ⌝ }
-    ensures end { λ r. ⌜ r ≡ callEnd (now (s .entry)) at ⌝ }
-    ensures images { λ _. ⌜ images (now (text .exit)) (now («data» .exit)) ≡ effect (relocatableAt (now (file .entry))) (callAt (now (s .entry)) at) (images (now (text .entry)) (now («data» .entry))) ⌝ }
+// ---- the list
+
+// 1 of an accepted call, 0 of a refused one.
+fn accepted_one(a: CallAnswer) -> u64
+    ensures { λ r. ⌜ r ≡ acceptedOne a ⌝ }
 {
-    answer_call(file, s, at, text, data);
-    call_end(s, at)
+    match a {
+        CallAnswer::Done(_r) => 1,
+        CallAnswer::Refused(_x) => 0,
+    }
 }
 
-// Runs the calls that `script` encodes on the two buffers; a call that is refused changes nothing and does not end the list.
-pub fn replay(file: &[u8], script: &[u64], text: &mut [u8], data: &mut [u8])
-    ensures { λ _. ⌜ images (now (text .exit)) (now («data» .exit)) ≡ bookImages (relocatableAt (now (file .entry))) (bookAfter (relocatableAt (now (file .entry))) (callsOf (now (script .entry))) (images (now (text .entry)) (now («data» .entry)))) ⌝ }
+// Runs the calls that `script` encodes on the two buffers; a call that is refused changes nothing and does not end the list. Where no call was run
+// the last answer is a blank one.
+pub fn replay(file: &[u8], script: &[u64], text: &mut [u8], data: &mut [u8]) -> ReplayAnswer
+    ensures cause { λ r. ⌜ r ≡ replayAnswer (relocatableAt (now (file .entry))) (callsOf (now (script .entry))) (images (now (text .entry)) (now («data» .entry))) ⌝ }
+    ensures report { λ r. ⌜ reportOfReplay r ≡ reportOfReplay (replayAnswer (relocatableAt (now (file .entry))) (callsOf (now (script .entry))) (images (now (text .entry)) (now («data» .entry)))) ⌝ }
+    ensures images { λ _. ⌜ images (now (text .exit)) (now («data» .exit)) ≡ bookImages (relocatableAt (now (file .entry))) (bookAfter (relocatableAt (now (file .entry))) (callsOf (now (script .entry))) (images (now (text .entry)) (now («data» .entry)))) ⌝ }
 {
-    let mut n = script.len();
+    let blank = Reached {
+        entry: AnchorAddress::Nowhere,
+        toc: AnchorAddress::Nowhere,
+    };
+    let mut last = CallAnswer::Done(blank);
+    let mut calls: u64 = 0;
+    let mut accepted: u64 = 0;
     let mut at: usize = 0;
-    while 0 < n {
-        if call_end(script, at) == 0 {
-            return;
+    while at < script.len() {
+        let end = call_end(script, at);
+        if end == 0 {
+            return ReplayAnswer {
+                calls,
+                accepted,
+                last,
+            };
         }
-        at = do_call(file, script, at, text, data);
-        n -= 1;
+        last = answer_call(file, script, at, text, data);
+        calls += 1;
+        accepted += accepted_one(last);
+        at = end;
+    }
+    ReplayAnswer {
+        calls,
+        accepted,
+        last,
+    }
+}
+
+pub fn report_replay(a: ReplayAnswer) -> ReplayReport
+    ensures { λ r. ⌜ r ≡ reportOfReplay a ⌝ }
+{
+    let answer = a.last;
+    let last = image::report_call(answer);
+    let head = last.head;
+    ReplayReport {
+        head,
+        has_entry: last.has_entry,
+        entry: last.entry,
+        has_toc: last.has_toc,
+        toc: last.toc,
+        calls: a.calls,
+        accepted: a.accepted,
     }
 }

@@ -1,7 +1,7 @@
--- What holds of every section that is accepted, along the definition that judges it. Assumes nothing.
+-- The order in which a section is judged, and what holds of every one that is accepted. Assumes nothing.
 use Prim.Native.Nat.{ℕ}
-use mathlib.Core.Path.{_≡_}
-use mathlib.Core.Bool.{false, not}
+use mathlib.Core.Path.{_≡_, refl}
+use mathlib.Core.Bool.{true, false, not}
 use lib.Dec.{eqb}
 use borrow.Author.Tests.{eqb-true, not-false}
 use Rattle.word.proofs.Test.{either, past-not, or-first, or-second}
@@ -15,6 +15,8 @@ use Rattle.section_kind.specs.Kind.{kindOf}
 use Rattle.section.specs.declared.SectionHeader.{SectionHeader}
 use Rattle.section.specs.declared.SectionAnswer.{SectionAnswer}
 use Rattle.section.specs.declared.SectionAnswer.the-variants.{Found, Refused}
+use Rattle.refusal.specs.declared.Refusal.the-variants.{Kind, Bounds}
+use Rattle.refusal.specs.declared.BoundsItem.the-variants.{RawData}
 use Rattle.section.specs.Section.{rawDataPast, misplaced, sectionOf, judgeKind, judgeSection, SectionWithin}
 
 abbrev pub Judged : Format → ℕ → SectionAnswer → Type 0
@@ -22,6 +24,16 @@ Judged f len (Found s) = SectionWithin f len s
 Judged f len (Refused x) = Unit {0}
 
 module _ (f : Format) (len : ℕ) (h : SectionHeader) where
+  -- KIND, whatever BOUNDS and ADDRESS would say
+  pub kind-first : (n : SectionNumber) → kindOf (h .flags) ≡ NotAllowed → judgeSection f len h n ≡ Refused (Kind n)
+  unfolding judgeSection judgeKind
+  kind-first n e = rw e refl
+
+  -- then BOUNDS, whatever ADDRESS would say
+  pub bounds-next : (n : SectionNumber) (k : SectionKind) → kindOf (h .flags) ≡ Allowed k → rawDataPast k len h ≡ true → judgeSection f len h n ≡ Refused (Bounds (RawData n))
+  unfolding judgeSection judgeKind
+  bounds-next n k e r = rw (e, r) refl
+
   section-inside : (k : SectionKind) → rawDataPast k len h ≡ false → misplaced f k h ≡ false → SectionWithin f len (sectionOf k h)
   unfolding sectionOf rawDataPast misplaced
   section-inside k a m =

@@ -1,6 +1,6 @@
 -- Laws of a section that is looked up. Assumes nothing.
 use Prim.Native.Nat.{ℕ, _+_, _-_, _≤_, _<_}
-use mathlib.Core.Path.{_≡_, refl}
+use mathlib.Core.Path.{_≡_, refl, ap}
 use mathlib.Core.Bool.{false, true≢false, _||_}
 use mathlib.Core.List.{List}
 use native.Mathlib.Decide.{ℕ-discrete}
@@ -44,6 +44,10 @@ number-known count n e = known (ℕ-discrete (n .0) 0) (number-in count n e)
     known (yes z) t = absurd (true≢false (rw (eq-eqb (n .0) 0 z) at t))
     known (no z) t = (omega arith, ltb-false count (n .0) (rw (ne-eqb (n .0) 0 z) at t))
 
+-- equal openings have the same count
+pub same-count : {o o′ : Opened} → o ≡ o′ → o .summary .count ≡ o′ .summary .count
+same-count e = ap (λ (x : Opened). x .summary .count) e
+
 module _ (file : List ℕ) (n : SectionNumber) where
   -- the verdict that was found is the one of the look-up
   pub looked-up : {o : Opened} {v : Verdict} → o ≡ openOf file → v ≡ (o .verdict orElse numberCheck (o .summary .count) n) → v ≡ lookupCheck file n
@@ -60,14 +64,13 @@ module _ (file : List ℕ) (n : SectionNumber) where
     pub known : (0 < n .0) × (n .0 ≤ openOf file .summary .count)
     known = unfold lookupCheck in number-known (openOf file .summary .count) n (accepted-rest (openOf file .verdict) _ e)
 
-    -- the section's header is whole
-    pub header-whole : sectionStart (openOf file .summary .format) (openOf file .summary .opthdr) (n .0 - 1) + sectionLayout (openOf file .summary .format) .length ≤ length file
-    header-whole =
-        let k = known in
-        section-whole (openOf file .summary .format) (openOf file .summary .opthdr) (openOf file .summary .count) (n .0 - 1) (length file) (omega arith) (inside .headers)
+    -- the header of any section that the file has is whole
+    pub header-whole : (i : ℕ) → i < openOf file .summary .count → sectionStart (openOf file .summary .format) (openOf file .summary .opthdr) i + sectionLayout (openOf file .summary .format) .length ≤ length file
+    header-whole i h = section-whole (openOf file .summary .format) (openOf file .summary .opthdr) (openOf file .summary .count) i (length file) h (inside .headers)
 
-    pub name-whole : {o : Opened} {l : SectionLayout} {base : ℕ} → o ≡ openOf file → l ≡ sectionLayout (o .summary .format) → base ≡ sectionStart (o .summary .format) (o .summary .opthdr) (n .0 - 1) → FieldInside (l .name) base (length file)
-    name-whole q a b = rw (b, a, q) (section-inside (openOf file .summary .format) (sectionStart (openOf file .summary .format) (openOf file .summary .opthdr) (n .0 - 1)) (length file) refl header-whole .name)
+    pub name-whole : {o : Opened} {l : SectionLayout} {base : ℕ} (i : ℕ) → i < openOf file .summary .count → o ≡ openOf file → l ≡ sectionLayout (o .summary .format)
+        → base ≡ sectionStart (o .summary .format) (o .summary .opthdr) i → FieldInside (l .name) base (length file)
+    name-whole i h q a b = rw (b, a, q) (section-inside (openOf file .summary .format) (sectionStart (openOf file .summary .format) (openOf file .summary .opthdr) i) (length file) refl (header-whole i h) .name)
 
   -- the answers by that verdict
   pub section-refused : {v : Verdict} (x : Refusal) → v ≡ lookupCheck file n → v ≡ verdict.Refused x → Refused x ≡ sectionAt file n
@@ -91,7 +94,8 @@ module _ (file : List ℕ) (n : SectionNumber) where
   unfolding nameOf
   name-in (verdict.Refused x) e = tt
   name-in verdict.Accepted e =
-      text-inside _ _ file (name-whole e refl refl refl)
+      let k = known e in
+      text-inside _ _ file (name-whole e (n .0 - 1) (omega arith) refl refl refl)
 
   pub name-within : Within (length file) (sectionNameAt file n)
   unfolding sectionNameAt

@@ -10,7 +10,6 @@ use refusal::IndexItem;
 use refusal::RangeAnswer;
 use refusal::Refusal;
 use refusal::Verdict;
-use section::Section;
 use section::SectionAnswer;
 
 // `flag` is the low 16 bits of the section's flags, `raw` 1 where raw data exists.

@@ -1,66 +1,50 @@
--- The laws of an entry's checks, and of where the tables lie. Assumes nothing.
+-- The laws of an entry's checks. Assumes nothing.
 use Prim.Native.Nat.{ℕ, _+_, _≤_, _<_}
-use mathlib.Core.Path.{_≡_, refl}
-use mathlib.Core.Bool.{true, false, _&&_, and-false}
-use mathlib.Core.Logic.{_⊎_, inl, inr}
+use mathlib.Core.Path.{_≡_, refl, sym, _∙_, ap}
+use mathlib.Core.Bool.{true, false}
 use mathlib.Core.List.{List}
 use native.Mathlib.Omega.{arith}
-use borrow.Author.Tests.{lt-ltb, le-ltb, lt-leb, le-leb}
-use lib.Dec.{ltb}
-use lib.ListN.{length}
+use borrow.Author.Tests.{lt-leb, le-leb, leb-false}
+use lib.Dec.{leb}
 use Rattle.word.specs.Test.{past}
 use Rattle.word.proofs.Test.{past-not}
 use Rattle.format.specs.declared.SymbolIndex.{SymbolIndex}
-use Rattle.format.specs.Layout.{symbolLength}
-use Rattle.refusal.specs.declared.Refusal.the-variants.{Index, Aux, Scnum}
+use Rattle.refusal.specs.declared.Refusal.{Refusal}
+use Rattle.refusal.specs.declared.Refusal.the-variants.{Index, Aux, Scnum, Name}
 use Rattle.refusal.specs.declared.IndexItem.the-variants.{NoSymbol}
 use Rattle.refusal.specs.declared.Verdict.{Verdict}
 use Rattle.refusal.specs.declared.Verdict.the-variants as verdict
-use Rattle.refusal.specs.Order.{_orElse_, byVerdict}
-use Rattle.refusal.proofs.Order.{test-passed, test-refused, accepted-first, accepted-rest, accepted-test}
-use Rattle.header.specs.declared.Opened.{Opened}
-use Rattle.header.specs.Open.{openOf}
-use Rattle.header.proofs.Accepted.{opened-inside}
+use Rattle.refusal.specs.Order.{_orElse_, firstRefusal, byVerdict}
+use Rattle.refusal.proofs.Order.{accepted-first, accepted-rest, accepted-test, EachAccepts, each-accepts}
 use Rattle.symbol.specs.declared.Tables.{Tables}
 use Rattle.symbol.specs.declared.SymbolEntry.{SymbolEntry}
 use Rattle.symbol.specs.declared.Symbol.{Symbol}
 use Rattle.symbol.specs.declared.SymbolAnswer.the-variants.{Found, Refused}
-use Rattle.symbol.specs.Entry.{tablesOf, TablesInside, entryStart, entryAt}
-use Rattle.symbol.specs.Symbol.{indexCheck, auxCheck, scnumCheck, nameCheck, symbolCheck, symbolOf, entryOf, symbolIn}
+use Rattle.symbol.specs.Entry.{OpenTables, entryOf}
+use Rattle.symbol.specs.Name.{hasName}
+use Rattle.symbol.specs.Symbol.{indexCheck, auxCheck, isSection, scnumCheck, nameCheck, symbolChecks, symbolCheck, symbolOf, symbolIn}
+use Rattle.symbol.proofs.Names.{name-judged}
 
--- ---- the checks in their order
+-- ---- the checks in their order: AUX, SECTION, NAME
 
-module _ (file : List ℕ) (t : Tables) (i : SymbolIndex) (e : SymbolEntry) (h : i .0 < t .count) where
-  pub check-aux : past (i .0 + 1) (e .numaux) (t .count) ≡ true → verdict.Refused (Aux i) ≡ symbolCheck file t i e
-  unfolding symbolCheck indexCheck auxCheck
-  check-aux p = test-passed _ _ (lt-leb (t .count) (i .0) h) (test-refused _ _ p)
+module _ (file : List ℕ) (t : Tables) (i : SymbolIndex) (e : SymbolEntry) where
+  pub check-aux : past (i .0 + 1) (e .numaux) (t .count) ≡ true → verdict.Refused (Aux i) ≡ firstRefusal (symbolChecks file t i e)
+  unfolding auxCheck
+  check-aux p = rw p refl
 
   module _ (p : past (i .0 + 1) (e .numaux) (t .count) ≡ false) where
-    pub check-scnum : t .nscns < e .scnum → e .scnum < 0xFFFE → verdict.Refused (Scnum i) ≡ symbolCheck file t i e
-    unfolding symbolCheck indexCheck auxCheck scnumCheck
-    check-scnum a b =
-        let k : (ltb (t .nscns) (e .scnum) && ltb (e .scnum) 0xFFFE) ≡ true = rw (lt-ltb (t .nscns) (e .scnum) a, lt-ltb (e .scnum) 0xFFFE b) in
-        test-passed _ _ (lt-leb (t .count) (i .0) h) (test-passed _ _ p (test-refused _ _ k))
+    pub check-scnum : isSection (t .nscns) (e .scnum) ≡ false → verdict.Refused (Scnum i) ≡ firstRefusal (symbolChecks file t i e)
+    unfolding auxCheck scnumCheck
+    check-scnum q = rw (p, q) refl
 
-    pub check-rest : (e .scnum ≤ t .nscns) ⊎ (0xFFFE ≤ e .scnum) → nameCheck file t i e ≡ symbolCheck file t i e
-    unfolding symbolCheck indexCheck auxCheck scnumCheck
-    check-rest k = test-passed _ _ (lt-leb (t .count) (i .0) h) (test-passed _ _ p (test-passed _ _ (scnum-in k) refl))
-      where
-        scnum-in : (e .scnum ≤ t .nscns) ⊎ (0xFFFE ≤ e .scnum) → (ltb (t .nscns) (e .scnum) && ltb (e .scnum) 0xFFFE) ≡ false
-        scnum-in (inl a) = rw (le-ltb (t .nscns) (e .scnum) a)
-        scnum-in (inr b) = rw (le-ltb (e .scnum) 0xFFFE b) (and-false (ltb (t .nscns) (e .scnum)))
+    module _ (q : isSection (t .nscns) (e .scnum) ≡ true) (o : OpenTables file t) where
+      pub check-name : hasName (t .ends) (e .name) ≡ false → verdict.Refused (Name i) ≡ firstRefusal (symbolChecks file t i e)
+      unfolding auxCheck scnumCheck
+      check-name r = rw (p, q, name-judged file t i e o, r) refl
 
--- an accepted entry and its auxiliaries are in the table
-module _ (file : List ℕ) (t : Tables) (i : SymbolIndex) (e : SymbolEntry) (k : symbolCheck file t i e ≡ verdict.Accepted) where
-  checks : (indexCheck (t .count) i orElse auxCheck (t .count) i e orElse scnumCheck (t .nscns) i e orElse nameCheck file t i e) ≡ verdict.Accepted
-  checks = unfold symbolCheck in k
-
-  auxiliaries-in : i .0 + 1 + e .numaux ≤ t .count
-  auxiliaries-in =
-      unfold auxCheck in
-      past-not (i .0 + 1) (e .numaux) (t .count)
-      (accepted-test (past (i .0 + 1) (e .numaux) (t .count)) (Aux i)
-      (accepted-first (auxCheck (t .count) i e) _ (accepted-rest (indexCheck (t .count) i) _ checks)))
+      pub check-none : hasName (t .ends) (e .name) ≡ true → verdict.Accepted ≡ firstRefusal (symbolChecks file t i e)
+      unfolding auxCheck scnumCheck
+      check-none r = rw (p, q, name-judged file t i e o, r) refl
 
 -- ---- the symbol of an opened file
 
@@ -69,29 +53,44 @@ module _ (file : List ℕ) (t : Tables) (i : SymbolIndex) where
   unfolding symbolIn symbolCheck indexCheck
   symbol-none h = rw (le-leb (t .count) (i .0) h)
 
-  pub symbol-judged : {e : SymbolEntry} {v : Verdict} → e ≡ entryAt (t .format) (entryStart t (i .0)) file → v ≡ symbolCheck file t i e → byVerdict v (Found (symbolOf e)) Refused ≡ symbolIn file t i
-  unfolding symbolIn entryOf
-  symbol-judged a b = rw (b, a)
+  pub symbol-judged : {e : SymbolEntry} {v : Verdict} → i .0 < t .count → e ≡ entryOf file t i → v ≡ firstRefusal (symbolChecks file t i e) → byVerdict v (Found (symbolOf e)) Refused ≡ symbolIn file t i
+  unfolding symbolIn symbolCheck indexCheck
+  symbol-judged h a b = rw (b, a, lt-leb (t .count) (i .0) h)
 
-  -- what is found: the entry is accepted, and is in the table with its auxiliaries
-  pub symbol-in-table : {s : Symbol} → symbolIn file t i ≡ Found s → i .0 + 1 + s .numaux ≤ t .count
-  unfolding symbolIn symbolOf
-  symbol-in-table {s} k = by-verdict (symbolCheck file t i (entryOf file t i)) refl k
-    where
-      by-verdict : (v : Verdict) → symbolCheck file t i (entryOf file t i) ≡ v → byVerdict v (Found (symbolOf (entryOf file t i))) Refused ≡ Found s → i .0 + 1 + s .numaux ≤ t .count
-      by-verdict verdict.Accepted q e =
-          let n : entryOf file t i .numaux ≡ s .numaux = cc in
-          rw (← n) (auxiliaries-in file t i (entryOf file t i) q)
-      by-verdict (verdict.Refused x) q e = let z : _≡_ {A = ℕ} 0 1 = cc in absurd (omega arith)
+  -- the same by the verdict
+  module _ {e : SymbolEntry} {v : Verdict} (h : i .0 < t .count) (a : e ≡ entryOf file t i) (b : v ≡ firstRefusal (symbolChecks file t i e)) where
+    pub symbol-found : v ≡ verdict.Accepted → symbolIn file t i ≡ Found (symbolOf e)
+    symbol-found k = sym (rw k at (symbol-judged h a b))
 
--- ---- where the tables lie
+    pub symbol-refused : {x : Refusal} → v ≡ verdict.Refused x → symbolIn file t i ≡ Refused x
+    symbol-refused k = sym (rw k at (symbol-judged h a b))
 
--- the tables of an accepted file are in it
-pub tables-inside : (file : List ℕ) {o : Opened} {t : Tables} → o ≡ openOf file → o .verdict ≡ verdict.Accepted → t ≡ tablesOf (o .summary) → TablesInside file t
-tables-inside file e k q =
-    let h = opened-inside file (rw e at k) in
-    rw (q, e) record { small = h .small; symbols = h .symbols; strings = h .strings }
+  -- what is found: an entry of the table that every check accepts
+  module _ {s : Symbol} (k : symbolIn file t i ≡ Found s) where
+    found : (symbolCheck file t i (entryOf file t i) ≡ verdict.Accepted) × (symbolOf (entryOf file t i) ≡ s)
+    found = unfold symbolIn in by-verdict (symbolCheck file t i (entryOf file t i)) refl k
+      where
+        by-verdict : (v : Verdict) → symbolCheck file t i (entryOf file t i) ≡ v → byVerdict v (Found (symbolOf (entryOf file t i))) Refused ≡ Found s → (symbolCheck file t i (entryOf file t i) ≡ verdict.Accepted) × (symbolOf (entryOf file t i) ≡ s)
+        by-verdict verdict.Accepted q e = (q, cc)
+        by-verdict (verdict.Refused x) q e = let z : _≡_ {A = ℕ} 0 1 = cc in absurd (omega arith)
 
--- an entry of the table is whole
-pub entry-whole : (file : List ℕ) (t : Tables) (i : ℕ) → TablesInside file t → i < t .count → entryStart t i + symbolLength ≤ length file
-entry-whole file t i h k = omega (arith, h .symbols)
+    pub symbol-known : i .0 < t .count
+    symbol-known =
+        unfold symbolCheck indexCheck in
+        leb-false (t .count) (i .0) (accepted-test (leb (t .count) (i .0)) (Index (NoSymbol i)) (accepted-first (indexCheck (t .count) i) _ (found .0)))
+
+    pub symbol-accepted : EachAccepts (symbolChecks file t i (entryOf file t i))
+    symbol-accepted = each-accepts (symbolChecks file t i (entryOf file t i)) (unfold symbolCheck in accepted-rest (indexCheck (t .count) i) _ (found .0))
+
+    pub symbol-numaux : s .numaux ≡ entryOf file t i .numaux
+    symbol-numaux = unfold symbolOf in sym (ap (λ (x : Symbol). x .numaux) (found .1))
+
+    -- its auxiliaries are in the table, and its name lies somewhere
+    pub symbol-in-table : i .0 + 1 + s .numaux ≤ t .count
+    symbol-in-table =
+        let n = entryOf file t i .numaux in
+        rw symbol-numaux
+        (past-not (i .0 + 1) n (t .count) (accepted-test (past (i .0 + 1) n (t .count)) (Aux i) (unfold auxCheck in symbol-accepted .0)))
+
+    pub name-accepted : nameCheck file t i (entryOf file t i) ≡ verdict.Accepted
+    name-accepted = symbol-accepted .1 .1 .0

@@ -1,50 +1,123 @@
 -- The laws of names. Assumes nothing.
 use Prim.Native.Nat.{ℕ, _+_, _-_, _≤_, _<_}
-use mathlib.Core.Path.{_≡_, refl, ap}
-use mathlib.Core.Bool.{_||_}
+use mathlib.Core.Path.{_≡_, refl, sym, ap}
+use mathlib.Core.Bool.{Bool, true, false, cond, not, _||_, _&&_}
 use mathlib.Core.List.{List}
 use native.Mathlib.Omega.{arith}
-use borrow.Author.Tests.{lt-ltb, le-ltb, lt-leb, le-leb}
-use lib.Dec.{ltb, leb}
+use borrow.Author.Tests.{lt-ltb, le-ltb, lt-leb, le-leb, ltb-true, ltb-false, leb-true, leb-false, ne-eqb}
+use lib.Dec.{eqb, ltb, leb}
 use lib.ListN.{length, drop}
-use Rattle.word.specs.Zero.{firstZero, ZeroEnd}
-use Rattle.word.proofs.Zero.{zero-known, zero-unknown}
-use Rattle.word.proofs.Test.{either}
+use Rattle.word.specs.Zero.{firstZero, zeroEnd}
+use Rattle.word.proofs.Zero.{zero-end-within, zero-known, zero-unknown}
+use Rattle.word.proofs.Test.{either, or-second}
 use Rattle.format.specs.declared.FileRange.{FileRange}
 use Rattle.format.specs.declared.SymbolIndex.{SymbolIndex}
 use Rattle.format.specs.Range.{range, bytesOf}
 use Rattle.format.proofs.Ranges.{length-part}
 use Rattle.refusal.specs.declared.Refusal.the-variants.{Name}
+use Rattle.refusal.specs.declared.RangeAnswer.{RangeAnswer}
 use Rattle.refusal.specs.declared.RangeAnswer.the-variants.{Found, Refused}
 use Rattle.refusal.specs.declared.Verdict.the-variants.{Accepted}
-use Rattle.symbol.specs.Name.{stringIn}
-use Rattle.symbol.specs.Symbol.{verdictOf}
+use Rattle.refusal.specs.Order.{refuseIf}
+use Rattle.refusal.specs.Part.{Within}
+use Rattle.refusal.proofs.Order.{not-accepted}
+use Rattle.format.specs.declared.NameField.{NameField}
+use Rattle.format.specs.declared.NameField.the-variants.{Short, Offset}
+use Rattle.symbol.specs.declared.Tables.{Tables}
+use Rattle.symbol.specs.declared.SymbolEntry.{SymbolEntry}
+use Rattle.symbol.specs.Entry.{OpenTables}
+use Rattle.symbol.specs.Name.{stringRoom, roomBy, hasName}
+use Rattle.symbol.specs.Symbol.{verdictOf, nameCheck}
+use Rattle.symbol.proofs.Opened.{TablesInside, tables-inside, entry-whole}
 
 -- ---- a string by its offset
 
 module _ (file : List ℕ) (strings : FileRange) (o : ℕ) (i : SymbolIndex) where
-  pub string-low : o < 4 → Refused (Name i) ≡ stringIn file strings o i
-  unfolding stringIn
+  pub string-low : o < 4 → Refused (Name i) ≡ stringRoom file strings o i
+  unfolding stringRoom
   string-low h = rw (lt-ltb o 4 h)
 
   -- no zero, or no byte, is left in the table
-  pub string-open : strings .length - o ≤ firstZero (drop o (bytesOf file strings)) → Refused (Name i) ≡ stringIn file strings o i
-  unfolding stringIn
+  pub string-open : strings .length - o ≤ firstZero (drop o (bytesOf file strings)) → Refused (Name i) ≡ stringRoom file strings o i
+  unfolding stringRoom
   string-open z =
       either (λ a. Refused (Name i) ≡ a) (ltb o 4 || leb (strings .length) o) (λ _. refl)
       (λ _. rw (le-leb (strings .length - o) (firstZero (drop o (bytesOf file strings))) z))
 
-  pub string-found : 4 ≤ o → o < strings .length → firstZero (drop o (bytesOf file strings)) < strings .length - o → Found (range (strings .start .0 + o) (firstZero (drop o (bytesOf file strings)))) ≡ stringIn file strings o i
-  unfolding stringIn
+  pub string-found : 4 ≤ o → o < strings .length → firstZero (drop o (bytesOf file strings)) < strings .length - o → Found (range (strings .start .0 + o) (strings .length - o)) ≡ stringRoom file strings o i
+  unfolding stringRoom
   string-found low h z = rw (le-ltb o 4 low, lt-leb (strings .length) o h, lt-leb (strings .length - o) _ z)
 
-  -- the same by the place of the last zero
-  module _ (inside : strings .start .0 + strings .length ≤ length file) {ends : ℕ} (z : ZeroEnd (bytesOf file strings) ends) where
-    pub string-unended : ends ≤ o → Refused (Name i) ≡ stringIn file strings o i
-    string-unended h = string-open (rw (length-part file strings inside) at (zero-unknown (bytesOf file strings) ends o z h))
+  -- what is found lies inside the table
+  pub string-below : verdictOf (stringRoom file strings o i) ≡ Accepted → o < strings .length
+  unfolding stringRoom
+  string-below =
+      either (λ a. verdictOf a ≡ Accepted → o < strings .length) (ltb o 4 || leb (strings .length) o) (λ _ e. not-accepted e)
+      (λ p _. leb-false (strings .length) o (or-second (ltb o 4) (leb (strings .length) o) p))
 
-    pub string-ended : 4 ≤ o → o < ends → Accepted ≡ verdictOf (stringIn file strings o i)
+  pub string-accepted : verdictOf (stringRoom file strings o i) ≡ Accepted → Found (range (strings .start .0 + o) (strings .length - o)) ≡ stringRoom file strings o i
+  unfolding stringRoom
+  string-accepted =
+      let P : RangeAnswer → Type 0 = λ a. verdictOf a ≡ Accepted → Found (range (strings .start .0 + o) (strings .length - o)) ≡ a in
+      either P (ltb o 4 || leb (strings .length) o) (λ _ e. not-accepted e)
+      (λ _. either P (leb (strings .length - o) (firstZero (drop o (bytesOf file strings)))) (λ _ e. not-accepted e) (λ _ _. refl))
+
+  -- the same by the place of the last zero
+  module _ (inside : strings .start .0 + strings .length ≤ length file) where
+    pub string-unended : zeroEnd (bytesOf file strings) ≤ o → Refused (Name i) ≡ stringRoom file strings o i
+    string-unended h = string-open (rw (length-part file strings inside) at (zero-unknown (bytesOf file strings) o h))
+
+    pub string-ended : 4 ≤ o → o < zeroEnd (bytesOf file strings) → Accepted ≡ verdictOf (stringRoom file strings o i)
     string-ended low h =
-        let w = z .within in
+        let w = zero-end-within (bytesOf file strings) in
         let n = length-part file strings inside in
-        ap verdictOf (string-found low (omega arith) (rw n at (zero-known (bytesOf file strings) ends o z h)))
+        ap verdictOf (string-found low (omega arith) (rw n at (zero-known (bytesOf file strings) o h)))
+
+    -- NAME of a string by two comparisons
+    pub string-judged : verdictOf (stringRoom file strings o i) ≡ refuseIf (not (leb 4 o && ltb o (zeroEnd (bytesOf file strings)))) (Name i)
+    string-judged = by-low (leb 4 o) refl (ltb o (zeroEnd (bytesOf file strings))) refl
+      where
+        by-low : (a : Bool) → leb 4 o ≡ a → (b : Bool) → ltb o (zeroEnd (bytesOf file strings)) ≡ b → verdictOf (stringRoom file strings o i) ≡ refuseIf (not (a && b)) (Name i)
+        by-low false p b q = ap verdictOf (sym (string-low (leb-false 4 o p)))
+        by-low true p false q = ap verdictOf (sym (string-unended (ltb-false o _ q)))
+        by-low true p true q = sym (string-ended (leb-true 4 o p) (ltb-true o _ q))
+
+-- NAME of an entry of an opened file
+pub name-judged : (file : List ℕ) (t : Tables) (i : SymbolIndex) (e : SymbolEntry) → OpenTables file t → nameCheck file t i e ≡ refuseIf (not (hasName (t .ends) (e .name))) (Name i)
+unfolding nameCheck roomBy hasName
+name-judged file t i e o = by-field (e .name)
+  where
+    h : TablesInside file t
+    h = tables-inside file t o
+
+    by-offset : (a : ℕ) (z : Bool) → verdictOf (cond z (Found (range 0 0)) (stringRoom file (t .strings) a i)) ≡ refuseIf (not (z || (leb 4 a && ltb a (t .ends)))) (Name i)
+    by-offset a true = refl
+    by-offset a false = rw (h .ends) (string-judged file (t .strings) a i (h .strings))
+
+    by-field : (n : NameField) → verdictOf (roomBy file t i n) ≡ refuseIf (not (hasName (t .ends) n)) (Name i)
+    by-field Short = refl
+    by-field (Offset a) = by-offset a (eqb a 0)
+
+-- ---- the bytes that a name may take, where NAME accepts
+
+module _ (file : List ℕ) (t : Tables) (i : SymbolIndex) (o : ℕ) where
+  -- an offset that is not 0 lies below the string table's length
+  pub offset-below : verdictOf (roomBy file t i (Offset o)) ≡ Accepted → (o ≡ 0 → ⊥) → o < t .strings .length
+  unfolding roomBy
+  offset-below e h = string-below file (t .strings) o i (rw (ne-eqb o 0 h) at e)
+
+  pub offset-room : verdictOf (roomBy file t i (Offset o)) ≡ Accepted → (o ≡ 0 → ⊥) → Found (range (t .strings .start .0 + o) (t .strings .length - o)) ≡ roomBy file t i (Offset o)
+  unfolding roomBy
+  offset-room e h = rw (ne-eqb o 0 h) (string-accepted file (t .strings) o i (rw (ne-eqb o 0 h) at e))
+
+-- they are in the file
+pub room-in-file : (file : List ℕ) (t : Tables) (i : SymbolIndex) (name : NameField) → OpenTables file t → i .0 < t .count → Within (length file) (roomBy file t i name)
+unfolding roomBy stringRoom
+room-in-file file t i Short h k = omega (arith, entry-whole file t (i .0) h k)
+room-in-file file t i (Offset o) h k =
+    let strings = t .strings in
+    let n = firstZero (drop o (bytesOf file strings)) in
+    either (Within (length file)) (eqb o 0) (λ _. omega arith)
+    (λ _. either (Within (length file)) (ltb o 4 || leb (strings .length) o) (λ _. tt)
+    (λ p. either (Within (length file)) (leb (strings .length - o) n) (λ _. tt)
+    (λ _. omega (arith, tables-inside file t h .strings, leb-false (strings .length) o (or-second (ltb o 4) (leb (strings .length) o) p)))))

@@ -1,29 +1,44 @@
--- A symbol table entry: what its 18 bytes hold.
-use Prim.Native.Nat.{ℕ, _+_, _*_, _≤_}
+-- A symbol table entry: what its 18 bytes hold, and the tables that it is judged by.
+use Prim.Native.Nat.{ℕ, _+_, _*_}
+use mathlib.Core.Path.{_≡_}
 use mathlib.Core.List.{List}
-use lib.ListN.{length}
 use Rattle.word.specs.Number.{fieldIn}
+use Rattle.word.specs.Zero.{zeroEnd}
 use Rattle.format.specs.declared.Format.{Format}
-use Rattle.format.specs.Limit.{fileLimit}
+use Rattle.format.specs.declared.SymbolIndex.{SymbolIndex}
 use Rattle.format.specs.Name.{nameField}
 use Rattle.format.specs.Layout.{symbolLayout, symbolLength}
+use Rattle.format.specs.Range.{bytesOf}
+use Rattle.refusal.specs.declared.Verdict.the-variants.{Accepted}
 use Rattle.header.specs.declared.Summary.{Summary}
+use Rattle.header.specs.Open.{openOf}
 use Rattle.symbol.specs.declared.Tables.{Tables}
 use Rattle.symbol.specs.declared.SymbolEntry.{SymbolEntry}
 
--- where symbols and strings lie in an opened file
-abbrev pub tablesOf : Summary → Tables
-tablesOf y = record { format = y .format; nscns = y .count; start = y .symbols .start; count = y .symbols .count; strings = y .symbols .strings }
+-- all that entries and their names are judged by: where symbols and strings lie, and where the last string ends
+abbrev pub tablesOf : List ℕ → Summary → Tables
+tablesOf file y =
+    record {
+      format = y .format;
+      nscns = y .count;
+      start = y .symbols .start;
+      count = y .symbols .count;
+      strings = y .symbols .strings;
+      ends = zeroEnd (bytesOf file (y .symbols .strings));
+    }
+
+-- as opening finds them
+abbrev pub tablesAt : List ℕ → Tables
+tablesAt file = tablesOf file (openOf file .summary)
+
+-- t has the tables of an accepted file: what every function over an opened file asks for
+pub record OpenTables (file : List ℕ) (t : Tables) : Type 0 where
+  pub accepted : openOf file .verdict ≡ Accepted
+  pub tables : t ≡ tablesAt file
 
 -- where the entry with index i starts
 abbrev pub entryStart : Tables → ℕ → ℕ
 entryStart t i = t .start .0 + i * symbolLength
-
--- the tables of an accepted file are inside it
-pub record TablesInside (file : List ℕ) (t : Tables) : Type 0 where
-  pub small : length file ≤ fileLimit
-  pub symbols : t .start .0 + t .count * symbolLength ≤ length file
-  pub strings : t .strings .start .0 + t .strings .length ≤ length file
 
 -- the 18 bytes at base, taken as an entry
 unfoldable pub entryAt : Format → ℕ → List ℕ → SymbolEntry
@@ -36,3 +51,7 @@ entryAt f base file =
       sclass = fieldIn (symbolLayout f .sclass) base file;
       numaux = fieldIn (symbolLayout f .numaux) base file;
     }
+
+-- the entry of an opened file at an index
+unfoldable pub entryOf : List ℕ → Tables → SymbolIndex → SymbolEntry
+entryOf file t i = entryAt (t .format) (entryStart t (i .0)) file

@@ -1,30 +1,52 @@
 -- Where the name of an entry lies: a part of the file, or NAME.
 use Prim.Native.Nat.{ℕ, _+_, _-_}
-use mathlib.Core.Bool.{cond, _||_}
+use mathlib.Core.Bool.{Bool, true, cond, _||_, _&&_}
 use mathlib.Core.List.{List}
 use lib.Dec.{eqb, ltb, leb}
 use lib.ListN.{drop}
+use Rattle.word.specs.Number.{bytesIn}
 use Rattle.word.specs.Zero.{firstZero}
 use Rattle.format.specs.declared.FileRange.{FileRange}
+use Rattle.format.specs.declared.NameField.{NameField}
+use Rattle.format.specs.declared.NameField.the-variants.{Short, Offset}
 use Rattle.format.specs.declared.SymbolIndex.{SymbolIndex}
-use Rattle.format.specs.Layout.{symbolLayout}
-use Rattle.format.specs.Range.{range, bytesOf, textIn}
+use Rattle.format.specs.Layout.{shortName}
+use Rattle.format.specs.Range.{range, bytesOf, textOf}
 use Rattle.refusal.specs.declared.Refusal.the-variants.{Name}
 use Rattle.refusal.specs.declared.RangeAnswer.{RangeAnswer}
 use Rattle.refusal.specs.declared.RangeAnswer.the-variants.{Found, Refused}
 use Rattle.symbol.specs.declared.Tables.{Tables}
-use Rattle.format.specs.declared.NameField.{NameField}
-use Rattle.format.specs.declared.NameField.the-variants.{Short, Offset}
+use Rattle.symbol.specs.declared.SymbolEntry.{SymbolEntry}
 use Rattle.symbol.specs.Entry.{entryStart}
 
--- the string at the offset o of a string table: from there up to a zero, which must be inside the table
-unfoldable pub stringIn : List ℕ → FileRange → ℕ → SymbolIndex → RangeAnswer
-stringIn file strings o i =
+-- ---- the bytes that a name may take
+
+-- a string of the string table: all from its offset to the table's end, with a zero among them
+unfoldable pub stringRoom : List ℕ → FileRange → ℕ → SymbolIndex → RangeAnswer
+stringRoom file strings o i =
     cond (ltb o 4 || leb (strings .length) o) (Refused (Name i))
     (cond (leb (strings .length - o) (firstZero (drop o (bytesOf file strings)))) (Refused (Name i))
-    (Found (range (strings .start .0 + o) (firstZero (drop o (bytesOf file strings))))))
+    (Found (range (strings .start .0 + o) (strings .length - o))))
 
--- a short name is the 8 bytes of the entry up to the first zero; offset 0 is the empty name, at the start of the file
-unfoldable pub nameIn : List ℕ → Tables → SymbolIndex → NameField → RangeAnswer
-nameIn file t i Short = Found (textIn (symbolLayout (t .format) .name) (entryStart t (i .0)) file)
-nameIn file t i (Offset o) = cond (eqb o 0) (Found (range 0 0)) (stringIn file (t .strings) o i)
+-- a short name: the entry's own 8. Offset 0: none, at the start of the file
+unfoldable pub roomBy : List ℕ → Tables → SymbolIndex → NameField → RangeAnswer
+roomBy file t i Short = Found (range (entryStart t (i .0) + shortName .offset) (bytesIn (shortName .width)))
+roomBy file t i (Offset o) = cond (eqb o 0) (Found (range 0 0)) (stringRoom file (t .strings) o i)
+
+-- of the entry e at index i
+abbrev pub roomIn : List ℕ → Tables → SymbolIndex → SymbolEntry → RangeAnswer
+roomIn file t i e = roomBy file t i (e .name)
+
+-- ---- the name: those bytes up to their first zero, or all of them
+
+abbrev pub nameFrom : List ℕ → RangeAnswer → RangeAnswer
+nameFrom file (Found r) = Found (textOf file r)
+nameFrom file (Refused x) = Refused x
+
+abbrev pub nameIn : List ℕ → Tables → SymbolIndex → SymbolEntry → RangeAnswer
+nameIn file t i e = nameFrom file (roomIn file t i e)
+
+-- whether a name lies somewhere, by the end of the strings: serves the contract of `has_name` alone
+unfoldable pub hasName : ℕ → NameField → Bool
+hasName ends Short = true
+hasName ends (Offset o) = eqb o 0 || (leb 4 o && ltb o ends)

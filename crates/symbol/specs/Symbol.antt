@@ -1,8 +1,10 @@
 -- A symbol read at an index: INDEX, AUX, SECTION, NAME.
-use Prim.Native.Nat.{ℕ, _+_}
-use mathlib.Core.Bool.{cond, _&&_}
-use mathlib.Core.List.{List}
-use lib.Dec.{eqb, ltb, leb}
+use Prim.Native.Nat.{ℕ, zero, suc, _+_}
+use mathlib.Core.Bool.{Bool, not, _&&_}
+use mathlib.Core.List.{List, [], _∷_}
+use lib.Dec.{leb}
+use lib.IntN.{ℤ, pos, negsuc}
+use Rattle.word.specs.Signed.{signed16, lebℤ}
 use Rattle.word.specs.Test.{past}
 use Rattle.format.specs.declared.SymbolIndex.{SymbolIndex}
 use Rattle.refusal.specs.declared.Refusal.the-variants.{Index, Aux, Scnum}
@@ -11,7 +13,7 @@ use Rattle.refusal.specs.declared.RangeAnswer.{RangeAnswer}
 use Rattle.refusal.specs.declared.RangeAnswer.the-variants as range
 use Rattle.refusal.specs.declared.Verdict.{Verdict}
 use Rattle.refusal.specs.declared.Verdict.the-variants as verdict
-use Rattle.refusal.specs.Order.{_orElse_, refuseIf, byVerdict}
+use Rattle.refusal.specs.Order.{_orElse_, refuseIf, firstRefusal, byVerdict}
 use Rattle.symbol.specs.declared.Tables.{Tables}
 use Rattle.symbol.specs.declared.SymbolEntry.{SymbolEntry}
 use Rattle.symbol.specs.declared.SymbolSection.{SymbolSection}
@@ -19,8 +21,32 @@ use Rattle.symbol.specs.declared.SymbolSection.the-variants.{Debug, Abso
 use Rattle.symbol.specs.declared.Symbol.{Symbol}
 use Rattle.symbol.specs.declared.SymbolAnswer.{SymbolAnswer}
 use Rattle.symbol.specs.declared.SymbolAnswer.the-variants.{Found, Refused}
-use Rattle.symbol.specs.Entry.{entryStart, entryAt}
-use Rattle.symbol.specs.Name.{nameIn}
+use Rattle.symbol.specs.Entry.{entryOf}
+use Rattle.symbol.specs.Name.{roomIn}
+
+-- ---- the section that `n_scnum` names, by its signed number
+
+abbrev pub scnumOf : SymbolSection → ℤ
+scnumOf Debug = negsuc 1
+scnumOf Absolute = negsuc 0
+scnumOf Undefined = pos 0
+scnumOf (In n) = pos (n .0)
+
+-- and back: of what is below -2, which SECTION refuses, nothing is said
+abbrev pub sectionOf : ℤ → SymbolSection
+sectionOf (pos zero) = Undefined
+sectionOf (pos (suc n)) = In (record { 0 = suc n })
+sectionOf (negsuc zero) = Absolute
+sectionOf (negsuc (suc n)) = Debug
+
+unfoldable pub sectionIn : ℕ → SymbolSection
+sectionIn scnum = sectionOf (signed16 scnum)
+
+-- -2 ≤ `n_scnum` ≤ `f_nscns`
+unfoldable pub isSection : ℕ → ℕ → Bool
+isSection nscns scnum = lebℤ (scnumOf Debug) (signed16 scnum) && lebℤ (signed16 scnum) (pos nscns)
+
+-- ---- the checks
 
 -- INDEX: the table has no such entry
 unfoldable pub indexCheck : ℕ → SymbolIndex → Verdict
@@ -30,9 +56,9 @@ indexCheck count i = refuseIf (leb count (i .0)) (Index (NoSymbol i))
 unfoldable pub auxCheck : ℕ → SymbolIndex → SymbolEntry → Verdict
 auxCheck count i e = refuseIf (past (i .0 + 1) (e .numaux) count) (Aux i)
 
--- SECTION: `n_scnum`, two bytes, is above the last section and neither -2 (FFFE) nor -1 (FFFF)
+-- SECTION
 unfoldable pub scnumCheck : ℕ → SymbolIndex → SymbolEntry → Verdict
-scnumCheck nscns i e = refuseIf (ltb nscns (e .scnum) && ltb (e .scnum) 0xFFFE) (Scnum i)
+scnumCheck nscns i e = refuseIf (not (isSection nscns (e .scnum))) (Scnum i)
 
 -- the verdict that an answer with a part of the file stands for
 abbrev pub verdictOf : RangeAnswer → Verdict
@@ -41,28 +67,21 @@ verdictOf (range.Refused x) = verdict.Refused x
 
 -- NAME: the name lies nowhere
 unfoldable pub nameCheck : List ℕ → Tables → SymbolIndex → SymbolEntry → Verdict
-nameCheck file t i e = verdictOf (nameIn file t i (e .name))
+nameCheck file t i e = verdictOf (roomIn file t i e)
 
--- the checks of entry i, in their order
+-- the checks of the entry e at index i, in their order
+abbrev pub symbolChecks : List ℕ → Tables → SymbolIndex → SymbolEntry → List Verdict
+symbolChecks file t i e = auxCheck (t .count) i e ∷ scnumCheck (t .nscns) i e ∷ nameCheck file t i e ∷ []
+
+-- a read takes the first refusal; an entry that is not there has no record, so INDEX comes before them
 unfoldable pub symbolCheck : List ℕ → Tables → SymbolIndex → SymbolEntry → Verdict
-symbolCheck file t i e =
-    indexCheck (t .count) i orElse auxCheck (t .count) i e orElse scnumCheck (t .nscns) i e orElse nameCheck file t i e
+symbolCheck file t i e = indexCheck (t .count) i orElse firstRefusal (symbolChecks file t i e)
 
--- what `n_scnum` names
-unfoldable pub sectionIn : ℕ → SymbolSection
-sectionIn s =
-    cond (eqb s 0xFFFE) Debug
-    (cond (eqb s 0xFFFF) Absolute
-    (cond (eqb s 0) Undefined
-    (In (record { 0 = s }))))
+-- ---- the symbol
 
 unfoldable pub symbolOf : SymbolEntry → Symbol
 symbolOf e =
     record { value = e .value; section = sectionIn (e .scnum); ntype = e .ntype; sclass = e .sclass; numaux = e .numaux }
-
--- the entry of an opened file at an index
-unfoldable pub entryOf : List ℕ → Tables → SymbolIndex → SymbolEntry
-entryOf file t i = entryAt (t .format) (entryStart t (i .0)) file
 
 unfoldable pub symbolIn : List ℕ → Tables → SymbolIndex → SymbolAnswer
 symbolIn file t i = byVerdict (symbolCheck file t i (entryOf file t i)) (Found (symbolOf (entryOf file t i))) Refused

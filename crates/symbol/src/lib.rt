@@ -2,12 +2,14 @@
 ghost use mathlib.Core.Path.{_≡_};
 ghost use Prim.Native.Nat.{_+_, _≤_, _<_};
 ghost use lib.ListN.{length};
+ghost use Rattle.word.specs.Zero.{zeroEnd};
 ghost use Rattle.format.specs.Layout.{symbolLength};
 ghost use Rattle.format.specs.Range.{bytesOf};
-ghost use Rattle.word.specs.Zero.{ZeroEnd};
-ghost use Rattle.symbol.specs.Entry.{tablesOf, entryAt, TablesInside};
-ghost use Rattle.symbol.specs.Name.{nameIn};
-ghost use Rattle.symbol.specs.Symbol.{verdictOf, symbolCheck, sectionIn, symbolOf, symbolIn};
+ghost use Rattle.refusal.specs.Order.{firstRefusal};
+ghost use Rattle.header.specs.Open.{openOf};
+ghost use Rattle.symbol.specs.Entry.{OpenTables, entryAt, entryOf};
+ghost use Rattle.symbol.specs.Name.{roomIn, hasName};
+ghost use Rattle.symbol.specs.Symbol.{isSection, nameCheck, symbolChecks, sectionIn, symbolOf, symbolIn};
 use format::FileOffset;
 use format::FileRange;
 use format::Format;
@@ -16,16 +18,20 @@ use format::SectionNumber;
 use format::SymbolIndex;
 use header::Summary;
 use refusal::IndexItem;
+use refusal::RangeAnswer;
 use refusal::Refusal;
 use refusal::Verdict;
 
-// Where symbols and strings lie in an opened file.
+// All that entries and their names are judged by: where symbols and strings lie in an opened file, and one past the last zero
+// of the strings. Exactly the offsets below `ends` have a zero at or after them, so a walk judges each name by one comparison
+// and stays linear in the file.
 pub struct Tables {
     pub format: Format,
     pub nscns: u64,
     pub start: FileOffset,
     pub count: u64,
     pub strings: FileRange,
+    pub ends: u64,
 }
 
 // What the 18 bytes of an entry hold.
@@ -59,8 +65,20 @@ pub enum SymbolAnswer {
     Refused(Refusal),
 }
 
-pub fn tables_of(y: Summary) -> Tables
-    ensures { λ r. ⌜ r ≡ tablesOf y ⌝ }
+fn names_end(file: &[u8], strings: FileRange) -> u64
+    requires { ⌜ strings .start .0 + strings .length ≤ length (now file) ⌝ }
+    ensures { λ r. ⌜ r ≡ zeroEnd (bytesOf (now (file .entry)) strings) ⌝ }
+{
+    let from = strings.start;
+    let start = from.0 as usize;
+    let end = start + strings.length as usize;
+    word::zero_end(&file[start..end]) as u64
+}
+
+// The tables of a file that is open, with its summary.
+pub fn tables_of(file: &[u8], y: Summary) -> Tables
+    requires { ⌜ (openOf (now file) .verdict ≡ Verdict.Accepted) × (y ≡ openOf (now file) .summary) ⌝ }
+    ensures { λ r. ⌜ OpenTables (now (file .entry)) r ⌝ }
 {
     let format = y.format;
     let symbols = y.symbols;
@@ -72,6 +90,7 @@ pub fn tables_of(y: Summary) -> Tables
         start,
         count: symbols.count,
         strings,
+        ends: names_end(file, strings),
     }
 }
 
@@ -95,65 +114,114 @@ fn read_entry(file: &[u8], f: Format, base: usize) -> SymbolEntry
     }
 }
 
-// One past the last zero of the string table: exactly the offsets below it have a zero at or after them.
-// With it a walk judges each name by one comparison and stays linear in the file.
-pub fn names_end(file: &[u8], strings: FileRange) -> u64
-    requires { ⌜ strings .start .0 + strings .length ≤ length (now file) ⌝ }
-    ensures { λ r. ⌜ ZeroEnd (bytesOf (now (file .entry)) strings) r ⌝ }
+// The entry at an index of the table, not judged.
+pub fn entry_in(file: &[u8], t: Tables, i: SymbolIndex) -> SymbolEntry
+    requires { ⌜ OpenTables (now file) t × (i .0 < t .count) ⌝ }
+    ensures { λ r. ⌜ r ≡ entryOf (now (file .entry)) t i ⌝ }
 {
-    let from = strings.start;
-    let start = from.0 as usize;
-    let end = start + strings.length as usize;
-    word::zero_end(&file[start..end]) as u64
+    let f = t.format;
+    let start = t.start;
+    let base = start.0 + i.0 * format::SYMBOL_LENGTH;
+    read_entry(file, f, base as usize)
 }
 
-// AUX, SECTION and NAME of the entry `e` at the index `i`. Names below `ends` have their zero.
-fn check_entry(file: &[u8], t: Tables, ends: u64, i: SymbolIndex, e: SymbolEntry) -> Verdict
-    requires { ⌜ TablesInside (now file) t × ZeroEnd (bytesOf (now file) (t .strings)) ends × (i .0 < t .count) ⌝ }
-    ensures { λ r. ⌜ r ≡ symbolCheck (now (file .entry)) t i e ⌝ }
+// Two bytes from 8000 hex on are a negative number: FFFE is -2.
+pub fn is_section(nscns: u64, scnum: u64) -> bool
+    ensures { λ r. ⌜ r ≡ isSection nscns scnum ⌝ }
+{
+    if scnum < 0x8000 {
+        return scnum <= nscns;
+    }
+    0xFFFE <= scnum
+}
+
+// Whether a name lies somewhere: short, empty, or at an offset from 4 on with a zero at or after it.
+pub fn has_name(ends: u64, name: NameField) -> bool
+    ensures { λ r. ⌜ r ≡ hasName ends name ⌝ }
+{
+    match name {
+        NameField::Short => true,
+        NameField::Offset(o) => {
+            if o == 0 {
+                return true;
+            }
+            if o < 4 {
+                return false;
+            }
+            o < ends
+        }
+    }
+}
+
+// The bytes that the name of the entry `e` at the index `i` may take: it ends at the first zero in them. That zero is not looked
+// for: many symbols may share one long string, and a listing that read it for each would not be linear.
+pub fn name_room(file: &[u8], t: Tables, i: SymbolIndex, e: SymbolEntry) -> FileRange
+    requires { ⌜ OpenTables (now file) t × (i .0 < t .count) × (nameCheck (now file) t i e ≡ Verdict.Accepted) ⌝ }
+    ensures { λ r. ⌜ RangeAnswer.Found r ≡ roomIn (now (file .entry)) t i e ⌝ }
+{
+    let name = e.name;
+    match name {
+        NameField::Short => {
+            let place = format::short_name();
+            let width = place.width;
+            let start = t.start;
+            let base = start.0 + i.0 * format::SYMBOL_LENGTH;
+            let first = base + place.offset as u64;
+            FileRange {
+                start: FileOffset(first),
+                length: word::bytes_in(width) as u64,
+            }
+        }
+        NameField::Offset(o) => {
+            if o == 0 {
+                return FileRange {
+                    start: FileOffset(0),
+                    length: 0,
+                };
+            }
+            let strings = t.strings;
+            let from = strings.start;
+            let at = from.0 + o;
+            let room = strings.length - o;
+            FileRange {
+                start: FileOffset(at),
+                length: room,
+            }
+        }
+    }
+}
+
+// AUX, SECTION and NAME of the entry `e` at the index `i`, in this order.
+pub fn check_entry(file: &[u8], t: Tables, i: SymbolIndex, e: SymbolEntry) -> Verdict
+    requires { ⌜ OpenTables (now file) t × (i .0 < t .count) ⌝ }
+    ensures { λ r. ⌜ r ≡ firstRefusal (symbolChecks (now (file .entry)) t i e) ⌝ }
 {
     if word::ends_past(i.0 + 1, e.numaux, t.count) {
         return Verdict::Refused(Refusal::Aux(i));
     }
-    if t.nscns < e.scnum {
-        if e.scnum < 0xFFFE {
-            return Verdict::Refused(Refusal::Scnum(i));
-        }
+    if !is_section(t.nscns, e.scnum) {
+        return Verdict::Refused(Refusal::Scnum(i));
     }
     let name = e.name;
-    check_name(file, t, ends, i, name)
-}
-
-fn check_name(file: &[u8], t: Tables, ends: u64, i: SymbolIndex, name: NameField) -> Verdict
-    requires { ⌜ TablesInside (now file) t × ZeroEnd (bytesOf (now file) (t .strings)) ends ⌝ }
-    ensures { λ r. ⌜ r ≡ verdictOf (nameIn (now (file .entry)) t i name) ⌝ }
-{
-    match name {
-        NameField::Short => Verdict::Accepted,
-        NameField::Offset(o) => {
-            if o == 0 {
-                return Verdict::Accepted;
-            }
-            if o < 4 {
-                return Verdict::Refused(Refusal::Name(i));
-            }
-            if ends <= o {
-                return Verdict::Refused(Refusal::Name(i));
-            }
-            Verdict::Accepted
-        }
+    if !has_name(t.ends, name) {
+        return Verdict::Refused(Refusal::Name(i));
     }
+    Verdict::Accepted
 }
 
 fn section_in(scnum: u64) -> SymbolSection
     ensures { λ r. ⌜ r ≡ sectionIn scnum ⌝ }
 {
-    match scnum {
-        0xFFFE => SymbolSection::Debug,
-        0xFFFF => SymbolSection::Absolute,
-        0 => SymbolSection::Undefined,
-        _ => SymbolSection::In(SectionNumber(scnum)),
+    if scnum == 0 {
+        return SymbolSection::Undefined;
     }
+    if scnum < 0x8000 {
+        return SymbolSection::In(SectionNumber(scnum));
+    }
+    if scnum < 0xFFFF {
+        return SymbolSection::Debug;
+    }
+    SymbolSection::Absolute
 }
 
 fn symbol_of(e: SymbolEntry) -> Symbol
@@ -168,19 +236,16 @@ fn symbol_of(e: SymbolEntry) -> Symbol
     }
 }
 
-// The entry at an index of a file that is open, with `ends` from its string table.
-pub fn symbol_in(file: &[u8], t: Tables, ends: u64, i: SymbolIndex) -> SymbolAnswer
-    requires { ⌜ TablesInside (now file) t × ZeroEnd (bytesOf (now file) (t .strings)) ends ⌝ }
+// The symbol at an index of a file that is open.
+pub fn symbol_in(file: &[u8], t: Tables, i: SymbolIndex) -> SymbolAnswer
+    requires { ⌜ OpenTables (now file) t ⌝ }
     ensures { λ r. ⌜ r ≡ symbolIn (now (file .entry)) t i ⌝ }
 {
     if t.count <= i.0 {
         return SymbolAnswer::Refused(Refusal::Index(IndexItem::NoSymbol(i)));
     }
-    let f = t.format;
-    let start = t.start;
-    let base = start.0 + i.0 * format::SYMBOL_LENGTH;
-    let e = read_entry(file, f, base as usize);
-    let v = check_entry(file, t, ends, i, e);
+    let e = entry_in(file, t, i);
+    let v = check_entry(file, t, i, e);
     match v {
         Verdict::Refused(x) => SymbolAnswer::Refused(x),
         Verdict::Accepted => SymbolAnswer::Found(symbol_of(e)),

@@ -1,51 +1,22 @@
 -- The laws of where a name lies. Assumes nothing.
-use Prim.Native.Nat.{ℕ, zero, suc, _+_, _-_, _≤_, _<_}
-use mathlib.Core.Path.{_≡_, refl, sym, _∙_, ap}
-use mathlib.Core.Bool.{Bool, true, false, cond, _||_}
+use Prim.Native.Nat.{ℕ, zero, suc, _<_}
+use mathlib.Core.Path.{_≡_, sym, _∙_}
+use mathlib.Core.Bool.{Bool, true, false, cond}
 use mathlib.Core.List.{List, [], _∷_}
-use native.Mathlib.Nat.{sub-zero, zero-sub}
 use native.Mathlib.Omega.{arith}
-use borrow.Author.Tests.{leb-false, eq-eqb}
-use lib.Dec.{eqb, ltb, leb}
+use borrow.Author.Tests.{eq-eqb}
+use lib.Dec.{eqb}
 use lib.ListN.{length, take, drop, getD, length-take}
-use lib.Seq.{take-nil, drop-drop, getD-take}
-use Rattle.word.specs.Number.{bytesIn}
+use lib.Seq.{getD-take}
 use Rattle.word.specs.Zero.{firstZero}
 use Rattle.word.proofs.Zero.{zero-within}
-use Rattle.word.proofs.Test.{either}
 use Rattle.format.specs.declared.FileRange.{FileRange}
-use Rattle.format.specs.declared.SymbolIndex.{SymbolIndex}
-use Rattle.format.specs.Layout.{symbolLayout}
-use Rattle.format.specs.Range.{range, bytesOf, textIn}
-use Rattle.format.proofs.Layouts.{symbol-inside}
-use Rattle.format.proofs.Ranges.{text-inside}
+use Rattle.format.specs.Range.{bytesOf, textOf}
+use Rattle.format.proofs.Ranges.{length-part}
 use Rattle.refusal.specs.declared.RangeAnswer.{RangeAnswer}
+use Rattle.refusal.specs.declared.RangeAnswer.the-variants.{Found, Refused}
 use Rattle.refusal.specs.Part.{rangeBytes, Within}
-use Rattle.symbol.specs.declared.Tables.{Tables}
-use Rattle.format.specs.declared.NameField.{NameField}
-use Rattle.format.specs.declared.NameField.the-variants.{Short, Offset}
-use Rattle.symbol.specs.Entry.{TablesInside, entryStart}
-use Rattle.symbol.specs.Name.{stringIn, nameIn}
-use Rattle.symbol.proofs.Checks.{entry-whole}
-
--- ---- parts of the file
-
-drop-take : (o n : ℕ) (l : List ℕ) → drop o (take n l) ≡ take (n - o) (drop o l)
-drop-take zero n l = rw (sub-zero n) refl
-drop-take (suc o) zero l = rw (zero-sub (suc o)) refl
-drop-take (suc o) (suc n) [] = sym (take-nil (suc n - suc o))
-drop-take (suc o) (suc n) (x ∷ l) =
-    let e : suc n - suc o ≡ n - o = omega arith in
-    rw e (drop-take o n l)
-
--- a part's rest from o, as the code cuts it
-rest-of : (file : List ℕ) (r : FileRange) (o : ℕ) → drop o (bytesOf file r) ≡ take (r .length - o) (drop (r .start .0 + o) file)
-rest-of file r o = drop-take o (r .length) (drop (r .start .0) file) ∙ ap (take (r .length - o)) (drop-drop o (r .start .0) file)
-
-pub rest-zero : (file : List ℕ) (r : FileRange) (o : ℕ) {n : ℕ} → n ≡ firstZero (take (r .start .0 + r .length - (r .start .0 + o)) (drop (r .start .0 + o) file)) → n ≡ firstZero (drop o (bytesOf file r))
-rest-zero file r o e =
-    let d : r .start .0 + r .length - (r .start .0 + o) ≡ r .length - o = omega arith in
-    rw rest-of (rw d at e)
+use Rattle.symbol.specs.Name.{nameFrom}
 
 -- ---- where a name lies
 
@@ -63,9 +34,11 @@ zero-before (x ∷ s) (suc k) h e = zero-before s k (later (eqb x 0) h) e
     later true h = absurd (omega arith)
     later false h = omega arith
 
--- the bytes up to the first zero of m bytes from p
-text-no-zero : (file : List ℕ) (m p : ℕ) → NoZero (bytesOf file (range p (firstZero (take m (drop p file)))))
-text-no-zero file m p k h e =
+-- the text in a part of the file
+text-no-zero : (file : List ℕ) (r : FileRange) → NoZero (bytesOf file (textOf file r))
+text-no-zero file r k h e =
+    let p = r .start .0 in
+    let m = r .length in
     let s = take m (drop p file) in
     let n = firstZero s in
     let l = length-take n (drop p file) in
@@ -73,32 +46,11 @@ text-no-zero file m p k h e =
     let v = length-take m (drop p file) in
     zero-before s k (omega arith) (getD-take m (drop p file) k 0 (omega arith) ∙ sym (getD-take n (drop p file) k 0 (omega arith)) ∙ e)
 
-string-no-zero : (file : List ℕ) (strings : FileRange) (o : ℕ) (i : SymbolIndex) → NoZero (rangeBytes file (stringIn file strings o i))
-unfolding stringIn
-string-no-zero file strings o i =
-    let P : RangeAnswer → Type 0 = λ a. NoZero (rangeBytes file a) in
-    either P (ltb o 4 || leb (strings .length) o) (λ _ k h. absurd (omega arith))
-    (λ _. either P (leb (strings .length - o) (firstZero (drop o (bytesOf file strings)))) (λ _ k h. absurd (omega arith))
-    (λ _. rw (rest-of file strings o) (text-no-zero file (strings .length - o) (strings .start .0 + o))))
+pub name-no-zero-in : (file : List ℕ) (a : RangeAnswer) → NoZero (rangeBytes file (nameFrom file a))
+name-no-zero-in file (Refused x) = λ k h. absurd (omega arith)
+name-no-zero-in file (Found r) = text-no-zero file r
 
-pub field-no-zero : (file : List ℕ) (t : Tables) (i : SymbolIndex) (name : NameField) → NoZero (rangeBytes file (nameIn file t i name))
-unfolding nameIn textIn
-field-no-zero file t i Short =
-    let f = symbolLayout (t .format) .name in
-    text-no-zero file (bytesIn (f .width)) (entryStart t (i .0) + f .offset)
-field-no-zero file t i (Offset o) =
-    either (λ (a : RangeAnswer). NoZero (rangeBytes file a)) (eqb o 0) (λ _ k h. absurd (omega arith)) (λ _. string-no-zero file (t .strings) o i)
-
-string-within : (file : List ℕ) (strings : FileRange) (o : ℕ) (i : SymbolIndex) → strings .start .0 + strings .length ≤ length file → Within (length file) (stringIn file strings o i)
-unfolding stringIn
-string-within file strings o i h =
-    let n = firstZero (drop o (bytesOf file strings)) in
-    either (Within (length file)) (ltb o 4 || leb (strings .length) o) (λ _. tt)
-    (λ _. either (Within (length file)) (leb (strings .length - o) n) (λ _. tt)
-    (λ z. omega (arith, leb-false (strings .length - o) n z)))
-
-pub name-in-file : (file : List ℕ) (t : Tables) (i : SymbolIndex) (name : NameField) → TablesInside file t → i .0 < t .count → Within (length file) (nameIn file t i name)
-unfolding nameIn
-name-in-file file t i Short h k = text-inside _ _ file (symbol-inside (t .format) (entryStart t (i .0)) (length file) refl (entry-whole file t (i .0) h k) .name)
-name-in-file file t i (Offset o) h k =
-    either (Within (length file)) (eqb o 0) (λ _. omega arith) (λ _. string-within file (t .strings) o i (h .strings))
+-- a name is no longer than the bytes that it may take
+pub name-within-room : (file : List ℕ) (a : RangeAnswer) → Within (length file) a → Within (length file) (nameFrom file a)
+name-within-room file (Refused x) h = tt
+name-within-room file (Found r) h = omega (arith, zero-within (bytesOf file r), length-part file r h)

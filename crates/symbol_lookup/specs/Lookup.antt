@@ -8,36 +8,27 @@ use Rattle.refusal.specs.declared.RangeAnswer.the-variants as range
 use Rattle.refusal.specs.declared.Verdict.the-variants as verdict
 use Rattle.refusal.specs.Refusal.{reportHead}
 use Rattle.refusal.specs.Order.{byVerdict}
-use Rattle.header.specs.declared.Opened.{Opened}
 use Rattle.header.specs.Open.{openOf}
-use Rattle.symbol.specs.declared.SymbolSection.{SymbolSection}
-use Rattle.symbol.specs.declared.SymbolSection.the-variants.{Debug, Absolute, Undefined, In}
+use Rattle.symbol.specs.declared.Tables.{Tables}
 use Rattle.symbol.specs.declared.SymbolAnswer.{SymbolAnswer}
 use Rattle.symbol.specs.declared.SymbolAnswer.the-variants.{Found, Refused}
-use Rattle.symbol.specs.Entry.{tablesOf}
+use Rattle.symbol.specs.Entry.{tablesAt, entryOf}
 use Rattle.symbol.specs.Name.{nameIn}
-use Rattle.symbol.specs.Symbol.{entryOf, symbolIn}
+use Rattle.symbol.specs.Symbol.{scnumOf, symbolIn}
 use Rattle.symbol_lookup.specs.declared.SymbolReport.{SymbolReport}
 
 -- opening's refusals come first
 unfoldable pub symbolAt : List ℕ → SymbolIndex → SymbolAnswer
-symbolAt file i = byVerdict (openOf file .verdict) (symbolIn file (tablesOf (openOf file .summary)) i) Refused
+symbolAt file i = byVerdict (openOf file .verdict) (symbolIn file (tablesAt file) i) Refused
 
 -- where the symbol's name lies; its refusals are those of the symbol
-unfoldable pub nameBehind : List ℕ → Opened → SymbolIndex → SymbolAnswer → RangeAnswer
-nameBehind file o i (Refused x) = range.Refused x
-nameBehind file o i (Found s) = nameIn file (tablesOf (o .summary)) i (entryOf file (tablesOf (o .summary)) i .name)
+unfoldable pub nameBehind : List ℕ → Tables → SymbolIndex → SymbolAnswer → RangeAnswer
+nameBehind file t i (Refused x) = range.Refused x
+nameBehind file t i (Found s) = nameIn file t i (entryOf file t i)
 
 -- a name looked up
 unfoldable pub symbolNameAt : List ℕ → SymbolIndex → RangeAnswer
-symbolNameAt file i = nameBehind file (openOf file) i (symbolAt file i)
-
--- `n_scnum` is signed
-abbrev pub scnumOf : SymbolSection → ℤ
-scnumOf Debug = negsuc 1
-scnumOf Absolute = negsuc 0
-scnumOf Undefined = pos 0
-scnumOf (In n) = pos (n .0)
+symbolNameAt file i = nameBehind file (tablesAt file) i (symbolAt file i)
 
 -- a signed number in 64 bits, two's complement
 abbrev pub signed64 : ℤ → ℕ

@@ -1,14 +1,9 @@
 // A symbol and its name, looked up by the symbol's index.
 ghost use mathlib.Core.Path.{_≡_};
-ghost use Prim.Native.Nat.{_+_, _≤_, _<_};
-ghost use lib.ListN.{length};
 ghost use Rattle.refusal.specs.Part.{rangeBytes, reportOfRange};
-ghost use Rattle.symbol.specs.Entry.{TablesInside};
-ghost use Rattle.symbol.specs.Name.{stringIn, nameIn};
-ghost use Rattle.symbol_lookup.specs.Lookup.{symbolAt, symbolNameAt, scnumOf, signed64, reportOfSymbol, symbolReport};
-use format::FileOffset;
-use format::FileRange;
-use format::NameField;
+ghost use Rattle.symbol.specs.Entry.{OpenTables};
+ghost use Rattle.symbol.specs.Symbol.{scnumOf, symbolIn};
+ghost use Rattle.symbol_lookup.specs.Lookup.{symbolAt, nameBehind, symbolNameAt, signed64, reportOfSymbol, symbolReport};
 use format::SymbolIndex;
 use refusal::Head;
 use refusal::RangeAnswer;
@@ -40,61 +35,24 @@ pub fn symbol_at(file: &[u8], i: SymbolIndex) -> SymbolAnswer
         Verdict::Refused(x) => SymbolAnswer::Refused(x),
         Verdict::Accepted => {
             let y = o.summary;
-            let t = symbol::tables_of(y);
-            let strings = t.strings;
-            let ends = symbol::names_end(file, strings);
-            symbol::symbol_in(file, t, ends, i)
+            let t = symbol::tables_of(file, y);
+            symbol::symbol_in(file, t, i)
         }
     }
 }
 
-// The name at the offset `o` of the string table.
-fn string_range(file: &[u8], strings: FileRange, o: u64, i: SymbolIndex) -> RangeAnswer
-    requires { ⌜ strings .start .0 + strings .length ≤ length (now file) ⌝ }
-    ensures { λ r. ⌜ r ≡ stringIn (now (file .entry)) strings o i ⌝ }
+// Where the name of the symbol at an index of a file that is open lies.
+fn name_in(file: &[u8], t: Tables, i: SymbolIndex) -> RangeAnswer
+    requires { ⌜ OpenTables (now file) t ⌝ }
+    ensures { λ r. ⌜ r ≡ nameBehind (now (file .entry)) t i (symbolIn (now (file .entry)) t i) ⌝ }
 {
-    if o < 4 {
-        return RangeAnswer::Refused(Refusal::Name(i));
-    }
-    if strings.length <= o {
-        return RangeAnswer::Refused(Refusal::Name(i));
-    }
-    let from = strings.start;
-    let start = from.0 as usize + o as usize;
-    let end = from.0 as usize + strings.length as usize;
-    let n = word::first_zero(&file[start..end]) as u64;
-    if strings.length - o <= n {
-        return RangeAnswer::Refused(Refusal::Name(i));
-    }
-    RangeAnswer::Found(FileRange {
-        start: FileOffset(start as u64),
-        length: n,
-    })
-}
-
-// Where the name of the entry at the index `i` lies.
-fn name_range(file: &[u8], t: Tables, i: SymbolIndex, name: NameField) -> RangeAnswer
-    requires { ⌜ TablesInside (now file) t × (i .0 < t .count) ⌝ }
-    ensures { λ r. ⌜ r ≡ nameIn (now (file .entry)) t i name ⌝ }
-{
-    match name {
-        NameField::Short => {
-            let f = t.format;
-            let l = format::symbol_layout(f);
-            let place = l.name;
-            let start = t.start;
-            let base = start.0 + i.0 * format::SYMBOL_LENGTH;
-            RangeAnswer::Found(format::text_in(file, base as usize, place))
-        }
-        NameField::Offset(o) => {
-            if o == 0 {
-                return RangeAnswer::Found(FileRange {
-                    start: FileOffset(0),
-                    length: 0,
-                });
-            }
-            let strings = t.strings;
-            string_range(file, strings, o, i)
+    let a = symbol::symbol_in(file, t, i);
+    match a {
+        SymbolAnswer::Refused(x) => RangeAnswer::Refused(x),
+        SymbolAnswer::Found(_) => {
+            let e = symbol::entry_in(file, t, i);
+            let room = symbol::name_room(file, t, i, e);
+            RangeAnswer::Found(format::text_of(file, room))
         }
     }
 }
@@ -104,18 +62,14 @@ pub fn symbol_name_range(file: &[u8], i: SymbolIndex) -> RangeAnswer
     ensures cause { λ r. ⌜ r ≡ symbolNameAt (now (file .entry)) i ⌝ }
     ensures report { λ r. ⌜ reportOfRange r ≡ reportOfRange (symbolNameAt (now (file .entry)) i) ⌝ }
 {
-    let a = symbol_at(file, i);
-    match a {
-        SymbolAnswer::Refused(x) => RangeAnswer::Refused(x),
-        SymbolAnswer::Found(_) => {
-            let o = header::open(file);
+    let o = header::open(file);
+    let v = o.verdict;
+    match v {
+        Verdict::Refused(x) => RangeAnswer::Refused(x),
+        Verdict::Accepted => {
             let y = o.summary;
-            let t = symbol::tables_of(y);
-            let f = t.format;
-            let start = t.start;
-            let base = start.0 + i.0 * format::SYMBOL_LENGTH;
-            let name = format::read_name_field(file, f, base as usize);
-            name_range(file, t, i, name)
+            let t = symbol::tables_of(file, y);
+            name_in(file, t, i)
         }
     }
 }

@@ -20,7 +20,7 @@ use Rattle.csect.specs.declared.CsectAnswer.{CsectAnswer}
 use Rattle.csect.specs.declared.CsectAnswer.the-variants.{Found, Refused}
 use Rattle.csect.specs.Csect.{carriesCsect, isMarked, isMapped, typedCsect, ownCsect, ownAfter}
 use Rattle.csect_lookup.specs.Lookup.{isContained, contained, csectAfter, csectIn, csectReport, reportOfCsect}
-use Rattle.symbol_table.specs.Table.{OpenTables}
+use Rattle.symbol.specs.Entry.{OpenTables}
 use Rattle.symbol_table.proofs.Opened.{csect-is}
 
 -- a refusal is CSECT

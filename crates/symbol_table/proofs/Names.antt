@@ -1,112 +1,31 @@
 -- A symbol's name from where it starts and how many bytes it may take. Assumes nothing.
-use Prim.Native.Nat.{ℕ, _+_, _-_, _<_}
-use mathlib.Core.Path.{_≡_, refl, sym, ap}
-use mathlib.Core.Bool.{Bool, true, false, cond, _||_}
+use Prim.Native.Nat.{ℕ}
+use mathlib.Core.Path.{_≡_, refl}
 use mathlib.Core.List.{List}
-use native.Mathlib.Omega.{arith}
-use borrow.Author.Tests.{ne-eqb, leb-false}
-use lib.Dec.{eqb, ltb, leb}
-use lib.ListN.{take, drop}
-use Rattle.word.specs.Zero.{firstZero}
-use Rattle.word.proofs.Test.{either, or-second}
-use Rattle.refusal.proofs.Order.{not-accepted, accepted-rest}
-use Rattle.format.specs.declared.FileRange.{FileRange}
-use Rattle.format.specs.declared.NameField.{NameField}
-use Rattle.format.specs.declared.NameField.the-variants.{Short, Offset}
 use Rattle.format.specs.declared.SymbolIndex.{SymbolIndex}
-use Rattle.format.specs.Range.{range, bytesOf, textIn}
+use Rattle.format.specs.Range.{textOf}
 use Rattle.refusal.specs.declared.RangeAnswer.{RangeAnswer}
-use Rattle.refusal.specs.declared.RangeAnswer.the-variants as range-answer
-use Rattle.refusal.specs.declared.Verdict.{Verdict}
-use Rattle.refusal.specs.declared.Verdict.the-variants as verdict
-use Rattle.refusal.specs.Order.{_orElse_, byVerdict}
-use Rattle.header.specs.Open.{openOf}
+use Rattle.refusal.specs.declared.RangeAnswer.the-variants as range
+use Rattle.refusal.specs.declared.Verdict.the-variants.{Accepted}
+use Rattle.refusal.proofs.Order.{not-accepted}
 use Rattle.symbol.specs.declared.Tables.{Tables}
 use Rattle.symbol.specs.declared.Symbol.{Symbol}
-use Rattle.symbol.specs.declared.SymbolAnswer.the-variants.{Found, Refused}
-use Rattle.symbol.specs.Entry.{tablesOf}
-use Rattle.symbol.specs.Name.{stringIn, nameIn}
-use Rattle.symbol.specs.Symbol.{verdictOf, indexCheck, auxCheck, scnumCheck, nameCheck, symbolCheck, symbolOf, entryOf, symbolIn}
+use Rattle.symbol.specs.declared.SymbolAnswer.the-variants.{Found}
+use Rattle.symbol.specs.Entry.{tablesAt, entryOf}
+use Rattle.symbol.specs.Name.{roomIn, nameFrom}
+use Rattle.symbol.specs.Symbol.{verdictOf, nameCheck}
+use Rattle.symbol.proofs.Checks.{name-accepted}
 use Rattle.symbol_lookup.specs.Lookup.{symbolAt, nameBehind, symbolNameAt}
-use Rattle.symbol_lookup.proofs.Names.{rest-zero}
-use Rattle.symbol_table.specs.Row.{nameSpan, symbolSpan}
+use Rattle.symbol_lookup.proofs.Lookup.{found-in}
+use Rattle.symbol_table.specs.Row.{rangeOf, symbolRoom}
 
--- the name is in these bytes, up to their first zero
-abbrev pub cutName : List ℕ → FileRange → FileRange
-cutName file r = range (r .start .0) (firstZero (bytesOf file r))
+accepted-found : (file : List ℕ) (a : RangeAnswer) → verdictOf a ≡ Accepted → nameFrom file a ≡ range.Found (textOf file (rangeOf a))
+accepted-found file (range.Found r) e = refl
+accepted-found file (range.Refused x) e = not-accepted e
 
--- ---- a string that is found
-
-module _ (file : List ℕ) (strings : FileRange) (o : ℕ) (i : SymbolIndex) where
-  -- it lies below the table's length
-  string-below : verdictOf (stringIn file strings o i) ≡ verdict.Accepted → o < strings .length
-  unfolding stringIn
-  string-below =
-      either (λ a. verdictOf a ≡ verdict.Accepted → o < strings .length) (ltb o 4 || leb (strings .length) o) (λ _ e. not-accepted e)
-      (λ p _. leb-false (strings .length) o (or-second (ltb o 4) (leb (strings .length) o) p))
-
-  -- the rest of the table from its offset, as a part of the file
-  rest-is : firstZero (take (strings .length - o) (drop (strings .start .0 + o) file)) ≡ firstZero (drop o (bytesOf file strings))
-  rest-is =
-      let room : strings .length - o ≡ strings .start .0 + strings .length - (strings .start .0 + o) = omega arith in
-      rest-zero file strings o (ap (λ (k : ℕ). firstZero (take k (drop (strings .start .0 + o) file))) room)
-
-  string-cut : verdictOf (stringIn file strings o i) ≡ verdict.Accepted → stringIn file strings o i ≡ range-answer.Found (cutName file (range (strings .start .0 + o) (strings .length - o)))
-  unfolding stringIn
-  string-cut =
-      let P : RangeAnswer → Type 0 = λ a. verdictOf a ≡ verdict.Accepted → a ≡ range-answer.Found (cutName file (range (strings .start .0 + o) (strings .length - o))) in
-      either P (ltb o 4 || leb (strings .length) o) (λ _ e. not-accepted e)
-      (λ _. either P (leb (strings .length - o) (firstZero (drop o (bytesOf file strings)))) (λ _ e. not-accepted e)
-      (λ _ _. ap (λ (n : ℕ). range-answer.Found (range (strings .start .0 + o) n)) (sym rest-is)))
-
--- ---- a name that is found
-
-module _ (file : List ℕ) (t : Tables) (i : SymbolIndex) where
-  -- an offset that is not 0 lies below the string table's length
-  pub offset-below : (o : ℕ) → verdictOf (nameIn file t i (Offset o)) ≡ verdict.Accepted → (o ≡ 0 → ⊥) → o < t .strings .length
-  unfolding nameIn
-  offset-below o e h = string-below file (t .strings) o i (rw (ne-eqb o 0 h) at e)
-
-  cut-by : (o : ℕ) (b : Bool) → verdictOf (cond b (range-answer.Found (range 0 0)) (stringIn file (t .strings) o i)) ≡ verdict.Accepted → cond b (range-answer.Found (range 0 0)) (stringIn file (t .strings) o i) ≡ range-answer.Found (cutName file (cond b (range 0 0) (range (t .strings .start .0 + o) (t .strings .length - o))))
-  unfolding firstZero
-  cut-by o true e = refl
-  cut-by o false e = string-cut file (t .strings) o i e
-
-  name-cut-in : (name : NameField) → verdictOf (nameIn file t i name) ≡ verdict.Accepted → nameIn file t i name ≡ range-answer.Found (cutName file (nameSpan t i name))
-  unfolding nameIn nameSpan textIn
-  name-cut-in Short e = refl
-  name-cut-in (Offset o) e = cut-by o (eqb o 0) e
-
-  -- a symbol that is found has its name
-  symbol-checked : {s : Symbol} → symbolIn file t i ≡ Found s → symbolCheck file t i (entryOf file t i) ≡ verdict.Accepted
-  unfolding symbolIn
-  symbol-checked {s} k = by-verdict (symbolCheck file t i (entryOf file t i)) k
-    where
-      by-verdict : (v : Verdict) → byVerdict v (Found (symbolOf (entryOf file t i))) Refused ≡ Found s → v ≡ verdict.Accepted
-      by-verdict verdict.Accepted e = refl
-      by-verdict (verdict.Refused x) e = cc
-
-  pub name-accepted : {s : Symbol} → symbolIn file t i ≡ Found s → verdictOf (nameIn file t i (entryOf file t i .name)) ≡ verdict.Accepted
-  unfolding symbolCheck nameCheck
-  name-accepted k =
-      let e = entryOf file t i in
-      let all : (indexCheck (t .count) i orElse auxCheck (t .count) i e orElse scnumCheck (t .nscns) i e orElse nameCheck file t i e) ≡ verdict.Accepted = symbol-checked k in
-      accepted-rest (scnumCheck (t .nscns) i e) _ (accepted-rest (auxCheck (t .count) i e) _ (accepted-rest (indexCheck (t .count) i) _ all))
-
--- ---- the theorem
-
--- a look-up that finds a symbol finds it in the tables of an accepted file
-symbol-in : (file : List ℕ) (i : SymbolIndex) {s : Symbol} → symbolAt file i ≡ Found s → symbolIn file (tablesOf (openOf file .summary)) i ≡ Found s
-unfolding symbolAt
-symbol-in file i {s} k = by-verdict (openOf file .verdict) k
-  where
-    by-verdict : (v : Verdict) → byVerdict v (symbolIn file (tablesOf (openOf file .summary)) i) Refused ≡ Found s → symbolIn file (tablesOf (openOf file .summary)) i ≡ Found s
-    by-verdict verdict.Accepted e = e
-    by-verdict (verdict.Refused x) e = cc
-
--- the name of a symbol that is found: from its start up to the first zero of the bytes that it may take
-pub name-cut : (file : List ℕ) (i : SymbolIndex) {s : Symbol} → symbolAt file i ≡ Found s → symbolNameAt file i ≡ range-answer.Found (cutName file (symbolSpan file i))
-unfolding symbolNameAt nameBehind symbolSpan
+-- the name of a symbol that is found: from its start up to the first zero of the bytes that it may take, or all of them
+pub name-cut : (file : List ℕ) (i : SymbolIndex) {s : Symbol} → symbolAt file i ≡ Found s → symbolNameAt file i ≡ range.Found (textOf file (symbolRoom file i))
+unfolding symbolNameAt nameBehind symbolRoom nameCheck
 name-cut file i k =
-    let t = tablesOf (openOf file .summary) in
-    rw k (name-cut-in file t i (entryOf file t i .name) (name-accepted file t i (symbol-in file i k)))
+    let t = tablesAt file in
+    rw k (accepted-found file (roomIn file t i (entryOf file t i)) (name-accepted file t i (found-in file i k .1)))

@@ -1,35 +1,28 @@
 -- The row of a symbol: what the look-ups of its index say, number by number.
-use Prim.Native.Nat.{ℕ, _+_, _-_}
-use mathlib.Core.Bool.{cond}
+use Prim.Native.Nat.{ℕ}
 use mathlib.Core.List.{List, [], _∷_}
-use lib.Dec.{eqb}
-use Rattle.word.specs.Number.{bytesIn}
 use Rattle.format.specs.declared.FileRange.{FileRange}
-use Rattle.format.specs.declared.NameField.{NameField}
-use Rattle.format.specs.declared.NameField.the-variants.{Short, Offset}
 use Rattle.format.specs.declared.SymbolIndex.{SymbolIndex}
-use Rattle.format.specs.Layout.{symbolLayout}
 use Rattle.format.specs.Range.{range}
-use Rattle.header.specs.Open.{openOf}
-use Rattle.symbol.specs.declared.Tables.{Tables}
-use Rattle.symbol.specs.Entry.{tablesOf, entryStart}
-use Rattle.symbol.specs.Symbol.{entryOf}
+use Rattle.refusal.specs.declared.RangeAnswer.{RangeAnswer}
+use Rattle.refusal.specs.declared.RangeAnswer.the-variants.{Found, Refused}
+use Rattle.symbol.specs.Entry.{tablesAt, entryOf}
+use Rattle.symbol.specs.Name.{roomIn}
 use Rattle.symbol_lookup.specs.Lookup.{symbolReport}
 use Rattle.csect_lookup.specs.Lookup.{csectReport}
 
--- where a name starts, and how many bytes it may take: the entry's own 8, or all from its offset to the string table's end. It ends at the first zero in them
-unfoldable pub nameSpan : Tables → SymbolIndex → NameField → FileRange
-nameSpan t i Short = range (entryStart t (i .0) + symbolLayout (t .format) .name .offset) (bytesIn (symbolLayout (t .format) .name .width))
-nameSpan t i (Offset o) = cond (eqb o 0) (range 0 0) (range (t .strings .start .0 + o) (t .strings .length - o))
+-- the bytes that the name of the symbol at index i of an accepted file may take: it ends at the first zero in them
+abbrev pub rangeOf : RangeAnswer → FileRange
+rangeOf (Found r) = r
+rangeOf (Refused x) = range 0 0
 
--- of the entry at index i of an accepted file
-unfoldable pub symbolSpan : List ℕ → SymbolIndex → FileRange
-symbolSpan file i = let t = tablesOf (openOf file .summary) in nameSpan t i (entryOf file t i .name)
+unfoldable pub symbolRoom : List ℕ → SymbolIndex → FileRange
+symbolRoom file i = rangeOf (roomIn file (tablesAt file) i (entryOf file (tablesAt file) i))
 
 -- its index, its numbers, its name's start and room; the number of its csect entry's refusal or 0, and that entry's numbers
-unfoldable pub symbolRow : List ℕ → ℕ → List ℕ
+unfoldable pub symbolRow : List ℕ → SymbolIndex → List ℕ
 symbolRow file i =
-    let s = symbolReport file (record { 0 = i }) in
-    let name = symbolSpan file (record { 0 = i }) in
-    let c = csectReport file (record { 0 = i }) in
-    i ∷ s .value ∷ s .scnum ∷ s .ntype ∷ s .sclass ∷ s .numaux ∷ name .start .0 ∷ name .length ∷ c .head .number ∷ c .kind ∷ c .align ∷ c .smclas ∷ c .length ∷ []
+    let s = symbolReport file i in
+    let name = symbolRoom file i in
+    let c = csectReport file i in
+    i .0 ∷ s .value ∷ s .scnum ∷ s .ntype ∷ s .sclass ∷ s .numaux ∷ name .start .0 ∷ name .length ∷ c .head .number ∷ c .kind ∷ c .align ∷ c .smclas ∷ c .length ∷ []

@@ -1,18 +1,12 @@
 // The symbol table listed whole: the file is opened once, and each symbol that the walk visits gets a row of numbers.
 ghost use mathlib.Core.Path.{_≡_};
-ghost use Prim.Native.Nat.{_<_};
 ghost use lib.ListN.{length};
-ghost use Rattle.format.specs.Range.{bytesOf};
-ghost use Rattle.word.specs.Zero.{ZeroEnd};
-ghost use Rattle.symbol.specs.Entry.{TablesInside};
-ghost use Rattle.symbol.specs.Name.{nameIn};
-ghost use Rattle.symbol.specs.Symbol.{verdictOf, symbolIn};
+ghost use Rattle.refusal.specs.Order.{byVerdict, ifAccepted};
+ghost use Rattle.symbol.specs.Entry.{OpenTables};
+ghost use Rattle.symbol.specs.Symbol.{symbolIn};
 ghost use Rattle.walk.specs.Walk.{walkIn, reportOfWalk};
-ghost use Rattle.symbol_table.specs.Row.{nameSpan, symbolRow};
-ghost use Rattle.symbol_table.specs.Table.{OpenTables, rowsFrom, roomBy, leftBy, symbolTable, symbolsAfter};
-use format::FileOffset;
-use format::FileRange;
-use format::NameField;
+ghost use Rattle.symbol_table.specs.Row.{symbolRow};
+ghost use Rattle.symbol_table.specs.Table.{rowsIn, roomFor, symbolTable, symbolsAfter};
 use format::SymbolIndex;
 use refusal::Verdict;
 use symbol::Symbol;
@@ -20,55 +14,16 @@ use symbol::SymbolAnswer;
 use symbol::Tables;
 use walk::WalkAnswer;
 
-// Where the name of the entry at the index `i` starts, and how many bytes it may take. Its end is not looked for:
-// many symbols may share one long string, and a listing that read it for each would not be linear.
-fn name_span(file: &[u8], t: Tables, i: SymbolIndex, name: NameField) -> FileRange
-    requires { ⌜ TablesInside (now file) t × (i .0 < t .count) × (verdictOf (nameIn (now file) t i name) ≡ Verdict.Accepted) ⌝ }
-    ensures { λ r. ⌜ r ≡ nameSpan t i name ⌝ }
-{
-    match name {
-        NameField::Short => {
-            let f = t.format;
-            let l = format::symbol_layout(f);
-            let place = l.name;
-            let width = place.width;
-            let start = t.start;
-            let base = start.0 + i.0 * format::SYMBOL_LENGTH;
-            FileRange {
-                start: FileOffset(base + place.offset as u64),
-                length: word::bytes_in(width) as u64,
-            }
-        }
-        NameField::Offset(o) => {
-            if o == 0 {
-                return FileRange {
-                    start: FileOffset(0),
-                    length: 0,
-                };
-            }
-            let strings = t.strings;
-            let from = strings.start;
-            FileRange {
-                start: FileOffset(from.0 + o),
-                length: strings.length - o,
-            }
-        }
-    }
-}
-
 // The row of the symbol `s` at the index `i`.
-fn symbol_row(file: &[u8], t: Tables, ends: u64, i: SymbolIndex, s: Symbol) -> [u64; 13]
-    requires { ⌜ OpenTables (now file) t × ZeroEnd (bytesOf (now file) (t .strings)) ends × (symbolIn (now file) t i ≡ SymbolAnswer.Found s) ⌝ }
-    ensures { λ r. ⌜ r ≡ symbolRow (now (file .entry)) (i .0) ⌝ }
+fn symbol_row(file: &[u8], t: Tables, i: SymbolIndex, s: Symbol) -> [u64; 13]
+    requires { ⌜ OpenTables (now file) t × (symbolIn (now file) t i ≡ SymbolAnswer.Found s) ⌝ }
+    ensures { λ r. ⌜ r ≡ symbolRow (now (file .entry)) i ⌝ }
 {
-    let f = t.format;
-    let first = t.start;
-    let base = first.0 + i.0 * format::SYMBOL_LENGTH;
-    let field = format::read_name_field(file, f, base as usize);
-    let name = name_span(file, t, i, field);
+    let e = symbol::entry_in(file, t, i);
+    let name = symbol::name_room(file, t, i, e);
     let start = name.start;
     let y = symbol_lookup::report_symbol(SymbolAnswer::Found(s));
-    let c = csect_lookup::report_csect(csect_lookup::csect_in(file, t, ends, i));
+    let c = csect_lookup::report_csect(csect_lookup::csect_in(file, t, i));
     let csect = c.head;
     [
         i.0,
@@ -88,19 +43,19 @@ fn symbol_row(file: &[u8], t: Tables, ends: u64, i: SymbolIndex, s: Symbol) -> [
 }
 
 // Writes the rows of the symbols that the walk visits.
-fn write_symbols(file: &[u8], t: Tables, ends: u64, out: &mut [u64])
-    requires { ⌜ OpenTables (now file) t × ZeroEnd (bytesOf (now file) (t .strings)) ends × (length (now out) ≡ length (rowsFrom (now file) t (t .count) 0)) ⌝ }
-    ensures { λ _. ⌜ now (out .exit) ≡ rowsFrom (now (file .entry)) t (t .count) 0 ⌝ }
+fn write_symbols(file: &[u8], t: Tables, out: &mut [u64])
+    requires { ⌜ OpenTables (now file) t × (length (now out) ≡ length (rowsIn (now file) t)) ⌝ }
+    ensures { λ _. ⌜ now (out .exit) ≡ rowsIn (now (file .entry)) t ⌝ }
 {
     let count = t.count;
     let mut visited: usize = 0;
     let mut i: u64 = 0;
     while i < count {
-        let a = symbol::symbol_in(file, t, ends, SymbolIndex(i));
+        let a = symbol::symbol_in(file, t, SymbolIndex(i));
         let SymbolAnswer::Found(s) = a else {
             return;
         };
-        let row = symbol_row(file, t, ends, SymbolIndex(i), s);
+        let row = symbol_row(file, t, SymbolIndex(i), s);
         rows::write_row(&row, visited * 13, out);
         visited += 1;
         i = i + 1 + s.numaux;
@@ -110,17 +65,15 @@ fn write_symbols(file: &[u8], t: Tables, ends: u64, out: &mut [u64])
 // The walk over the tables of an opened file, ROOM 0, and the rows.
 fn list_symbols(file: &[u8], t: Tables, out: &mut [u64]) -> WalkAnswer
     requires { ⌜ OpenTables (now file) t ⌝ }
-    ensures answer { λ r. ⌜ r ≡ roomBy (length (now (out .entry))) (WalkAnswer.Ended (walkIn (now (file .entry)) t)) ⌝ }
-    ensures rows { λ r. ⌜ now (out .exit) ≡ leftBy r (rowsFrom (now (file .entry)) t (t .count) 0) (now (out .entry)) ⌝ }
+    ensures answer { λ r. ⌜ r ≡ byVerdict (roomFor (now (file .entry)) t (length (now (out .entry)))) (WalkAnswer.Ended (walkIn (now (file .entry)) t)) WalkAnswer.Refused ⌝ }
+    ensures rows { λ _. ⌜ now (out .exit) ≡ ifAccepted (roomFor (now (file .entry)) t (length (now (out .entry)))) (rowsIn (now (file .entry)) t) (now (out .entry)) ⌝ }
 {
-    let strings = t.strings;
-    let ends = symbol::names_end(file, strings);
-    let w = walk::walk_tables(file, t, ends);
+    let w = walk::walk_tables(file, t);
     let v = rows::check_room(out.len() as u64, 13 * w.visited);
     match v {
         Verdict::Refused(x) => WalkAnswer::Refused(x),
         Verdict::Accepted => {
-            write_symbols(file, t, ends, out);
+            write_symbols(file, t, out);
             WalkAnswer::Ended(w)
         }
     }
@@ -138,7 +91,7 @@ pub fn symbol_table(file: &[u8], out: &mut [u64]) -> WalkAnswer
         Verdict::Refused(x) => WalkAnswer::Refused(x),
         Verdict::Accepted => {
             let y = o.summary;
-            let t = symbol::tables_of(y);
+            let t = symbol::tables_of(file, y);
             list_symbols(file, t, out)
         }
     }

@@ -1,14 +1,11 @@
 // The walk over the symbol table.
 ghost use mathlib.Core.Path.{_≡_};
-ghost use Rattle.format.specs.Range.{bytesOf};
-ghost use Rattle.word.specs.Zero.{ZeroEnd};
-ghost use Rattle.symbol.specs.Entry.{TablesInside};
+ghost use Rattle.symbol.specs.Entry.{OpenTables};
 ghost use Rattle.walk.specs.Walk.{walkIn, walkOf, reportOfWalk, walkReport};
 use format::SymbolIndex;
 use refusal::Head;
 use refusal::Refusal;
 use refusal::Verdict;
-use symbol::SymbolAnswer;
 use symbol::Tables;
 
 // How many entries the walk visited, the index where it ended, and why: accepted at the table's end.
@@ -33,27 +30,24 @@ pub struct WalkReport {
 }
 
 // The walk over the tables of an opened file.
-pub fn walk_tables(file: &[u8], t: Tables, ends: u64) -> WalkEnd
-    requires { ⌜ TablesInside (now file) t × ZeroEnd (bytesOf (now file) (t .strings)) ends ⌝ }
+pub fn walk_tables(file: &[u8], t: Tables) -> WalkEnd
+    requires { ⌜ OpenTables (now file) t ⌝ }
     ensures { λ r. ⌜ r ≡ walkIn (now (file .entry)) t ⌝ }
 {
     let count = t.count;
     let mut i: u64 = 0;
     let mut visited: u64 = 0;
     while i < count {
-        let a = symbol::symbol_in(file, t, ends, SymbolIndex(i));
-        match a {
-            SymbolAnswer::Refused(x) => {
-                return WalkEnd {
-                    visited,
-                    end: SymbolIndex(i),
-                    cause: Verdict::Refused(x),
-                };
-            }
-            SymbolAnswer::Found(s) => {
-                i = i + 1 + s.numaux;
-            }
+        let e = symbol::entry_in(file, t, SymbolIndex(i));
+        let cause = symbol::check_entry(file, t, SymbolIndex(i), e);
+        if refusal::refuses(cause) {
+            return WalkEnd {
+                visited,
+                end: SymbolIndex(i),
+                cause,
+            };
         }
+        i = i + 1 + e.numaux;
         visited += 1;
     }
     WalkEnd {
@@ -74,10 +68,8 @@ pub fn walk(file: &[u8]) -> WalkAnswer
         Verdict::Refused(x) => WalkAnswer::Refused(x),
         Verdict::Accepted => {
             let y = o.summary;
-            let t = symbol::tables_of(y);
-            let strings = t.strings;
-            let ends = symbol::names_end(file, strings);
-            WalkAnswer::Ended(walk_tables(file, t, ends))
+            let t = symbol::tables_of(file, y);
+            WalkAnswer::Ended(walk_tables(file, t))
         }
     }
 }

@@ -1,4 +1,5 @@
 -- What the contracts of `word` cite.
 pub mod Number
+pub mod Signed
 pub mod Zero
 pub mod Test

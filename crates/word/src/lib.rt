@@ -1,10 +1,12 @@
 // Numbers in bytes: big-endian reads, the first zero of a slice, and sums compared in exact arithmetic.
 ghost use mathlib.Core.Path.{_≡_};
+ghost use mathlib.Core.Bool.{_||_};
 ghost use mathlib.Core.List.{[], _∷_};
 ghost use Prim.Native.Nat.{_+_, _*_, _/_, _%_, _≤_, _<_, _^_};
-ghost use lib.ListN.{length, getD};
+ghost use lib.Dec.{ltb, eqb};
+ghost use lib.ListN.{length, getD, drop};
 ghost use Rattle.word.specs.Number.{field, fieldAt, bytesIn, fieldIn};
-ghost use Rattle.word.specs.Zero.{firstZero, zerosIn, ZeroEnd};
+ghost use Rattle.word.specs.Zero.{firstZero, zerosIn, zeroEnd};
 ghost use Rattle.word.specs.Test.{past};
 
 // How many bytes a number takes.
@@ -146,8 +148,66 @@ pub fn read_field(s: &[u8], base: usize, f: Field) -> u64
     }
 }
 
-// The place of the first zero, or the length where there is none.
+// The place of the first zero, or the length where there is none. Most names are short: where a zero is near, the plain loop is the quickest.
 pub fn first_zero(s: &[u8]) -> usize
+    ensures { λ r. ⌜ r ≡ firstZero (now (s .entry)) ⌝ }
+{
+    if s.len() < 16 {
+        return scan_first(s);
+    }
+    if has_zero(&s[..16]) {
+        return scan_first(s);
+    }
+    far_zero(s)
+}
+
+// The same, first by blocks that are looked at as a whole.
+fn far_zero(s: &[u8]) -> usize
+    ensures { λ r. ⌜ r ≡ firstZero (now (s .entry)) ⌝ }
+{
+    let far = skip_blocks(s, 64);
+    let rest = &s[far..];
+    let near = skip_blocks(rest, 16);
+    far + near + scan_first(&rest[near..])
+}
+
+// How many bytes there are in the blocks of `n` bytes, from the first on, that have no zero.
+fn skip_blocks(s: &[u8], n: usize) -> usize
+    requires { ⌜ 0 < n ⌝ }
+    ensures within { λ r. ⌜ r ≤ length (now (s .entry)) ⌝ }
+    ensures skipped { λ r. ⌜ firstZero (now (s .entry)) ≡ r + firstZero (drop r (now (s .entry))) ⌝ }
+{
+    let mut at = 0;
+    while n <= s.len() - at {
+        let end = at + n;
+        if has_zero(&s[at..end]) {
+            return at;
+        }
+        at = end;
+    }
+    at
+}
+
+// No return in the loop, and a length that the callers fix: so the compiler compares 16 bytes at once.
+fn has_zero(block: &[u8]) -> bool
+    ensures { λ r. ⌜ r ≡ ltb 0 (zerosIn (now (block .entry))) ⌝ }
+{
+    let mut found = false;
+    let mut i = 0;
+    while i < block.len() {
+        found = is_zero_or(block[i], found);
+        i += 1;
+    }
+    found
+}
+
+fn is_zero_or(b: u8, found: bool) -> bool
+    ensures { λ r. ⌜ r ≡ (eqb b 0 || found) ⌝ }
+{
+    if b == 0 { true } else { found }
+}
+
+fn scan_first(s: &[u8]) -> usize
     ensures { λ r. ⌜ r ≡ firstZero (now (s .entry)) ⌝ }
 {
     let mut i = 0;
@@ -164,15 +224,30 @@ pub fn count_zeros(s: &[u8]) -> usize
     ensures { λ r. ⌜ r ≡ zerosIn (now (s .entry)) ⌝ }
 {
     let mut n = 0;
+    let mut at = 0;
+    while 64 <= s.len() - at {
+        let end = at + 64;
+        n = n + zeros_in(&s[at..end]) as usize;
+        at = end;
+    }
+    n + zeros_in(&s[at..]) as usize
+}
+
+// The sum is a byte: so the compiler adds 16 at once.
+fn zeros_in(block: &[u8]) -> u8
+    requires { ⌜ length (now block) < 256 ⌝ }
+    ensures { λ r. ⌜ r ≡ zerosIn (now (block .entry)) ⌝ }
+{
+    let mut n: u8 = 0;
     let mut i = 0;
-    while i < s.len() {
-        n = n + zero_bit(s[i]);
+    while i < block.len() {
+        n = n + zero_bit(block[i]);
         i += 1;
     }
     n
 }
 
-fn zero_bit(b: u8) -> usize
+fn zero_bit(b: u8) -> u8
     ensures { λ r. ⌜ r ≡ zerosIn (b ∷ []) ⌝ }
 {
     if b == 0 { 1 } else { 0 }
@@ -180,7 +255,21 @@ fn zero_bit(b: u8) -> usize
 
 // One past the last zero, or 0 where there is none.
 pub fn zero_end(s: &[u8]) -> usize
-    ensures { λ r. ⌜ ZeroEnd (now (s .entry)) r ⌝ }
+    ensures { λ r. ⌜ r ≡ zeroEnd (now (s .entry)) ⌝ }
+{
+    let mut end = s.len();
+    while 64 <= end {
+        let at = end - 64;
+        if has_zero(&s[at..end]) {
+            return scan_last(&s[..end]);
+        }
+        end = at;
+    }
+    scan_last(&s[..end])
+}
+
+fn scan_last(s: &[u8]) -> usize
+    ensures { λ r. ⌜ r ≡ zeroEnd (now (s .entry)) ⌝ }
 {
     let mut i = s.len();
     while 0 < i {

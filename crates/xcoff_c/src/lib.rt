@@ -18,6 +18,7 @@ ghost use Rattle.plan.specs.Relocatable.{relocatableAt};
 ghost use Rattle.image.specs.Report.{reportOfCall};
 ghost use Rattle.srecord.specs.Records.{lengthAnswer, reportOfLength, recordWriteCheck, recordsWritten, recordReadCheck, textAfter, dataAfter};
 ghost use Rattle.replay.specs.Script.{callsOf};
+ghost use Rattle.replay.specs.Answer.{replayAnswer, reportOfReplay};
 ghost use Rattle.symbol_table.specs.Table.{symbolTable, symbolsAfter};
 ghost use Rattle.module_table.specs.Table.{tableCheck, tableAfter};
 ghost use Rattle.loader_symbol_table.specs.Rows.{loaderSymbols};
@@ -37,6 +38,7 @@ use loadable::ModuleReport;
 use lookup::LoaderSymbolReport;
 use refusal::Head;
 use refusal::RangeReport;
+use replay::ReplayReport;
 use section_lookup::SectionReport;
 use sheet::SheetReport;
 use srecord::LengthReport;
@@ -225,12 +227,18 @@ pub extern "C" fn xcoff_move(
     image::report_call(image::move_images(file, from, list, to, tolist, text, data))
 }
 
-// Runs the calls that `script` encodes on the two buffers.
+// Runs the calls that `script` encodes on the two buffers: how many, how many of them were accepted, and the last one's answer.
 #[no_mangle]
-pub extern "C" fn xcoff_replay(file: &[u8], script: &[u64], text: &mut [u8], data: &mut [u8])
-    ensures { λ _. ⌜ images (now (text .exit)) (now («data» .exit)) ≡ bookImages (relocatableAt (now (file .entry))) (bookAfter (relocatableAt (now (file .entry))) (callsOf (now (script .entry))) (images (now (text .entry)) (now («data» .entry)))) ⌝ }
+pub extern "C" fn xcoff_replay(
+    file: &[u8],
+    script: &[u64],
+    text: &mut [u8],
+    data: &mut [u8],
+) -> ReplayReport
+    ensures answer { λ r. ⌜ r ≡ reportOfReplay (replayAnswer (relocatableAt (now (file .entry))) (callsOf (now (script .entry))) (images (now (text .entry)) (now («data» .entry)))) ⌝ }
+    ensures images { λ _. ⌜ images (now (text .exit)) (now («data» .exit)) ≡ bookImages (relocatableAt (now (file .entry))) (bookAfter (relocatableAt (now (file .entry))) (callsOf (now (script .entry))) (images (now (text .entry)) (now («data» .entry)))) ⌝ }
 {
-    replay::replay(file, script, text, data)
+    replay::report_replay(replay::replay(file, script, text, data))
 }
 
 // How long the record text of a module's images for a plan is.

@@ -1,9 +1,9 @@
 //! Builds, moves, lists of them, and sheets: answers and buffers afterwards.
 
-use crate::compare::{answers, whole, Agreed, Agreement, Difference};
+use crate::compare::{answers, same, whole, Agreed, Agreement, Difference};
 use crate::lent::Lent;
 use reference::generate::Op;
-use reference::{answer::run_call, Call, LoaderSymbol, Plan};
+use reference::{answer::run_call, Call, LoaderSymbol, Plan, Refusal};
 
 /// Images of more bytes than this are compared after the last call only.
 const LARGE: usize = 200_000;
@@ -15,6 +15,9 @@ pub fn plan(p: &Plan) -> xcoff::Plan {
         list: p.list.clone(),
     }
 }
+
+/// A call's answer: the entry and the TOC address.
+type Reached = Result<(Option<u64>, Option<u64>), Refusal>;
 
 fn our_call(call: &Call) -> xcoff::Call {
     match call {
@@ -52,7 +55,8 @@ impl Images {
 }
 
 /// A list of calls, run one by one by both, and whole by `replay`: after each call the buffers are those of the other
-/// implementation, and those of its book. A single build or move is a list of one.
+/// implementation, and those of its book, and `replay` answers for its answers so far. A single build or move is a list
+/// of one.
 pub fn calls(file: &[u8], op: &Op) -> Agreement {
     let (calls, text, data) = match op {
         Op::Build { plan, text, data } => (vec![Call::Build(plan.clone())], text, data),
@@ -71,29 +75,31 @@ pub fn calls(file: &[u8], op: &Op) -> Agreement {
         calls: calls.len() as u64,
         ..Agreed::default()
     };
-    let mut accepted = Vec::new();
+    let mut theirs: Vec<Reached> = Vec::new();
     for (n, call) in calls.iter().enumerate() {
-        let theirs = run_call(file, call, &mut their_text, &mut their_data);
+        let reached = run_call(file, call, &mut their_text, &mut their_data);
+        theirs.push(reached.map(|r| (r.entry, r.toc)));
         let refused = answers(
             &format!("answer of call {n}"),
             ours.run(file, call).map(|r| (r.entry, r.toc)),
-            theirs.map(|r| (r.entry, r.toc)),
+            theirs[n],
         )?;
-        accepted.push(refused.is_none());
         agreed.refusals.extend(refused);
         ours.hold(&format!("after call {n}"), &their_text, &their_data)?;
         if text.len() + data.len() < LARGE || n + 1 == calls.len() {
-            book(file, &calls[..=n], (text, data), &ours)?;
+            book(file, &calls[..=n], &theirs, (text, data), &ours)?;
         }
     }
-    chain(file, &calls, &accepted, &ours, &mut agreed)?;
+    chain(file, &calls, &theirs, &ours, &mut agreed)?;
     Ok(agreed)
 }
 
-/// The book's images are what the calls left and what `replay` leaves.
+/// The book's images are what the calls left and what `replay` leaves. It answers how many calls there are, how many of
+/// their answers, which are the other implementation's, are no refusals, and the last one.
 fn book(
     file: &[u8],
     calls: &[Call],
+    theirs: &[Reached],
     before: (&[u8], &[u8]),
     ours: &Images,
 ) -> Result<(), Difference> {
@@ -102,7 +108,15 @@ fn book(
     ours.hold(&format!("against the book of {n} calls"), &text, &data)?;
     let mut replayed = Images::new(before.0, before.1);
     let list: Vec<xcoff::Call> = calls.iter().map(our_call).collect();
-    xcoff::replay(file, &list, replayed.text.slice(), replayed.data.slice());
+    let all = xcoff::replay(file, &list, replayed.text.slice(), replayed.data.slice());
+    let accepted = theirs.iter().filter(|answer| answer.is_ok()).count();
+    let counts = (n as u64, accepted as u64);
+    same("counts of a replay", &(all.calls, all.accepted), &counts)?;
+    answers(
+        &format!("last answer of a replay of {n} calls"),
+        all.last.map(|r| (r.entry, r.toc)),
+        theirs[n - 1],
+    )?;
     replayed.hold(&format!("after a replay of {n} calls"), &text, &data)
 }
 
@@ -111,14 +125,18 @@ fn book(
 fn chain(
     file: &[u8],
     calls: &[Call],
-    accepted: &[bool],
+    theirs: &[Reached],
     ours: &Images,
     agreed: &mut Agreed,
 ) -> Result<(), Difference> {
     let symbols = reference::loader_symbols(file).unwrap_or_default();
     let mut reached: Option<&Plan> = None;
     let mut before: Option<&Plan> = None;
-    for (call, _) in calls.iter().zip(accepted).filter(|(_, &accepted)| accepted) {
+    for (call, _) in calls
+        .iter()
+        .zip(theirs)
+        .filter(|(_, answer)| answer.is_ok())
+    {
         match call {
             Call::Build(p) => (reached, before) = (Some(p), Some(p)),
             Call::Move(p, q) => {

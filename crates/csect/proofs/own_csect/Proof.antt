@@ -3,7 +3,8 @@ use mathlib.Core.Path.{_∙_, ap, sym}
 use native.Mathlib.Omega.{arith}
 use borrow.Author.Needs.{needs}
 use Rattle.csect.specs.Csect.{ownAfter, ownCsect}
-use Rattle.symbol.proofs.Checks.{entry-whole, symbol-in-table}
+use Rattle.symbol.proofs.Checks.{symbol-in-table}
+use Rattle.symbol.proofs.Opened.{tables-inside, entry-whole}
 use Rattle.word.proofs.Test.{found}
 use Rattle.csect.proofs.own_csect.Statement.{statement}
 use Rattle.csect.proofs.own_csect.Tie as tie
@@ -35,16 +36,16 @@ unfolding ownAfter
 returns-2 c = let a = c .before .before .before .before .before .before .before .before .args in ap (ownAfter (a .file .now) (a .t) (a .i)) (sym (c .before .answer3 .given .1) ∙ sym (c .before .before .before .before .answer2 .given .1) ∙ c .before .before .before .before .before .before .symbol-in .ensures)
 
 add-base : tie.Need-add-base
-add-base c = let k = in-table (c .before .before .before .before) in let h = c .before .before .before .before .before .before .before .before .pre .0 in omega arith
+add-base c = let k = in-table (c .before .before .before .before) in let s = c .before .before .before .before .before .before .before .before in let h = tables-inside (s .args .file .now) (s .args .t) (s .pre) in omega arith
 
 mul-base : tie.Need-mul-base
-mul-base c = let k = in-table (c .before .before .before .before) in let h = c .before .before .before .before .before .before .before .before .pre .0 in omega arith
+mul-base c = let k = in-table (c .before .before .before .before) in let s = c .before .before .before .before .before .before .before .before in let h = tables-inside (s .args .file .now) (s .args .t) (s .pre) in omega arith
 
 add-base-2 : tie.Need-add-base-2
-add-base-2 c = let k = in-table (c .before .before .before .before .before) in let h = c .before .before .before .before .before .before .before .before .before .pre .0 in omega arith
+add-base-2 c = let k = in-table (c .before .before .before .before .before) in let s = c .before .before .before .before .before .before .before .before .before in let h = tables-inside (s .args .file .now) (s .args .t) (s .pre) in omega arith
 
 read-aux-requires : tie.Need-read-aux-requires
-read-aux-requires c κs = let k = in-table (c .before .before .before .before .before) in entry-whole _ (c .before .before .before .before .before .before .before .before .before .args .t) _ (c .before .before .before .before .before .before .before .before .before .pre .0) (omega arith)
+read-aux-requires c κs = let k = in-table (c .before .before .before .before .before) in entry-whole _ (c .before .before .before .before .before .before .before .before .before .args .t) _ (c .before .before .before .before .before .before .before .before .before .pre) (omega arith)
 
 judge-csect-requires : tie.Need-judge-csect-requires
 judge-csect-requires c κs = search needs

@@ -1,6 +1,7 @@
-use borrow.Author.Needs.{needs}
+use mathlib.Core.Path.{_∙_}
+use Rattle.symbol.proofs.Opened.{opened-tables}
 use Rattle.csect_lookup.proofs.Answers.{csect-refused, csect-opened, csect-reported}
-use Rattle.symbol.proofs.Checks.{tables-inside}
+use borrow.Author.Needs.{needs}
 use Rattle.csect_lookup.proofs.csect_at.Statement.{statement}
 use Rattle.csect_lookup.proofs.csect_at.Tie as tie
 
@@ -14,19 +15,16 @@ enum-told : tie.Need-enum-told
 enum-told c = search needs
 
 tables-of-requires : tie.Need-tables-of-requires
-tables-of-requires c κs = search needs
-
-names-end-requires : tie.Need-names-end-requires
-names-end-requires c κs = tables-inside (c .before .before .before .before .before .before .before .args .file .now) (c .before .before .before .before .before .«open» .ensures .0) (c .before .before .before .enum-told .given .1) (c .before .tables-of .ensures) .strings
+tables-of-requires c κs = opened-tables (c .before .before .before .before .before .args .file .now) (c .before .before .before .«open» .ensures .0) (c .before .enum-told .given .1)
 
 csect-in-requires : tie.Need-csect-in-requires
-csect-in-requires c κs = (tables-inside (c .before .before .before .before .before .before .before .before .args .file .now) (c .before .before .before .before .before .before .«open» .ensures .0) (c .before .before .before .before .enum-told .given .1) (c .before .before .tables-of .ensures), c .names-end .ensures)
+csect-in-requires c κs = search needs
 
 returns : tie.Need-returns
 returns c = let a = c .before .before .before .before .before .args in csect-reported _ _ (csect-refused (a .file .now) (a .i) (c .before .before .before .«open» .ensures .0) (c .before .v .given .1))
 
 returns-2 : tie.Need-returns-2
-returns-2 c = let a = c .before .before .before .before .before .before .before .before .before .args in csect-reported _ _ (rw (c .csect-in .ensures, c .before .before .before .tables-of .ensures) (csect-opened (a .file .now) (a .i) (c .before .before .before .before .before .before .before .«open» .ensures .0) (c .before .before .before .before .before .enum-told .given .1)))
+returns-2 c = let a = c .before .before .before .before .before .before .before .args in csect-reported _ _ (c .csect-in .ensures ∙ csect-opened (a .file .now) (a .i) (c .before .tables-of .ensures))
 
 pub csect-at-spec : {M : Type 1} → statement M
 csect-at-spec =
@@ -36,7 +34,6 @@ csect-at-spec =
     enum-known-v
     enum-told
     tables-of-requires
-    names-end-requires
     csect-in-requires
     returns
     returns-2)

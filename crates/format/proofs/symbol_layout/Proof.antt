@@ -2,12 +2,6 @@ use borrow.Author.Needs.{needs}
 use Rattle.format.proofs.symbol_layout.Statement.{statement}
 use Rattle.format.proofs.symbol_layout.Tie as tie
 
-eight-requires : tie.Need-eight-requires
-eight-requires c κs = search needs
-
-four-requires : tie.Need-four-requires
-four-requires c κs = search needs
-
 two-requires : tie.Need-two-requires
 two-requires c κs = search needs
 
@@ -23,20 +17,20 @@ one-requires-2 c κs = search needs
 enum-told : tie.Need-enum-told
 enum-told c = search needs
 
+four-requires : tie.Need-four-requires
+four-requires c κs = search needs
+
 four-requires-2 : tie.Need-four-requires-2
 four-requires-2 c κs = search needs
-
-four-requires-3 : tie.Need-four-requires-3
-four-requires-3 c κs = search needs
 
 enum-told-2 : tie.Need-enum-told-2
 enum-told-2 c = search needs
 
-four-requires-4 : tie.Need-four-requires-4
-four-requires-4 c κs = search needs
+four-requires-3 : tie.Need-four-requires-3
+four-requires-3 c κs = search needs
 
-eight-requires-2 : tie.Need-eight-requires-2
-eight-requires-2 c κs = search needs
+eight-requires : tie.Need-eight-requires
+eight-requires c κs = search needs
 
 returns : tie.Need-returns
 returns c = rw (c .before .before .enum-told .given .1) (cc)
@@ -48,17 +42,15 @@ pub symbol-layout-spec : {M : Type 1} → statement M
 symbol-layout-spec =
     tie.close
     (tie.spec
-    eight-requires
-    four-requires
     two-requires
     two-requires-2
     one-requires
     one-requires-2
     enum-told
+    four-requires
     four-requires-2
-    four-requires-3
     enum-told-2
-    four-requires-4
-    eight-requires-2
+    four-requires-3
+    eight-requires
     returns
     returns-2)

@@ -1,9 +1,9 @@
 use mathlib.Core.Path.{_∙_}
 use borrow.Author.Needs.{needs}
 use Rattle.word.proofs.Test.{found}
-use Rattle.header.proofs.Answer.{open-large, open-short, open-by}
+use Rattle.header.proofs.Answer.{open-large, open-short, open-unknown, open-known}
 use Rattle.refusal.proofs.Report.{reported}
-use Rattle.header.specs.Open.{openBy, reportOfOpened}
+use Rattle.header.specs.Open.{reportOfOpened}
 use Rattle.header.proofs.open.Statement.{statement}
 use Rattle.header.proofs.open.Tie as tie
 
@@ -41,12 +41,10 @@ open-as-requires : tie.Need-open-as-requires
 open-as-requires c κs = search needs
 
 returns-3 : tie.Need-returns-3
-unfolding openBy
-returns-3 c = let f = c .before .before .before .before .before .before .before .before .before .args .file .now in reported reportOfOpened (c .refuse3 .ensures ∙ open-by f (c .before .before .before .before .before .before .before .if1 .left) (c .before .before .before .before .before .before .if2 .left) _ (found (rw (c .before .before .before .before .read-field .ensures .0, c .before .before .before .before .before .two .ensures) at (c .before .before .before .format-of .ensures)) (c .before .enum-told .given .1)))
+returns-3 c = let f = c .before .before .before .before .before .before .before .before .before .args .file .now in reported reportOfOpened (c .refuse3 .ensures ∙ open-unknown f (c .before .before .before .before .before .before .before .if1 .left) (c .before .before .before .before .before .before .if2 .left) (found (rw (c .before .before .before .before .read-field .ensures .0, c .before .before .before .before .before .two .ensures) at (c .before .before .before .format-of .ensures)) (c .before .enum-told .given .1)))
 
 returns-4 : tie.Need-returns-4
-unfolding openBy
-returns-4 c = let f = c .before .before .before .before .before .before .before .before .before .before .args .file .now in reported reportOfOpened (c .open-as .ensures ∙ open-by f (c .before .before .before .before .before .before .before .before .if1 .left) (c .before .before .before .before .before .before .before .if2 .left) _ (found (rw (c .before .before .before .before .before .read-field .ensures .0, c .before .before .before .before .before .before .two .ensures) at (c .before .before .before .before .format-of .ensures)) (c .before .before .a .given .1)))
+returns-4 c = let f = c .before .before .before .before .before .before .before .before .before .before .args .file .now in reported reportOfOpened (c .open-as .ensures ∙ open-known f (c .before .before .before .before .before .before .before .before .if1 .left) (c .before .before .before .before .before .before .before .if2 .left) _ (found (rw (c .before .before .before .before .before .read-field .ensures .0, c .before .before .before .before .before .before .two .ensures) at (c .before .before .before .before .format-of .ensures)) (c .before .before .a .given .1)))
 
 pub open-spec : {M : Type 1} → statement M
 open-spec =

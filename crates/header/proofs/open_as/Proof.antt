@@ -1,11 +1,16 @@
 use mathlib.Core.Path.{_∙_, ap}
 use borrow.Author.Needs.{needs}
 use Rattle.refusal.proofs.Order.{told, told-accepted}
-use Rattle.header.specs.Open.{refusedBy}
+use Rattle.refusal.specs.declared.Verdict.{Verdict}
+use Rattle.header.specs.declared.Opened.{Opened}
+use Rattle.header.specs.Open.{blankSummary}
 use Rattle.header.proofs.Accepted.{header-in, header-complete}
 use Rattle.header.proofs.Answer.{as-header, as-sections, as-symbols, scanned, scanned-sections}
 use Rattle.header.proofs.open_as.Statement.{statement}
 use Rattle.header.proofs.open_as.Tie as tie
+
+abbrev blank : Verdict → Opened
+blank v = record { verdict = v; summary = blankSummary }
 
 check-header-requires : tie.Need-check-header-requires
 check-header-requires c κs = search needs
@@ -17,7 +22,7 @@ refuse-requires : tie.Need-refuse-requires
 refuse-requires c κs = search needs
 
 returns : tie.Need-returns
-returns c = let a = c .before .before .before .before .before .args in c .refuse .ensures ∙ ap refusedBy (c .before .before .before .check-header .ensures) ∙ as-header (a .f) (a .file .now) (told (c .before .before .before .check-header .ensures) (c .before .before .refuses .ensures) (c .before .if1 .taken))
+returns c = let a = c .before .before .before .before .before .args in c .refuse .ensures ∙ ap blank (c .before .before .before .check-header .ensures) ∙ as-header (a .f) (a .file .now) (told (c .before .before .before .check-header .ensures) (c .before .before .refuses .ensures) (c .before .if1 .taken))
 
 read-header-requires : tie.Need-read-header-requires
 read-header-requires c κs = let a = c .before .before .before .before .args in header-in (a .f) (a .file .now) (told-accepted (c .before .before .check-header .ensures) (c .before .refuses .ensures) (c .if1 .left))
@@ -32,7 +37,7 @@ refuse-requires-2 : tie.Need-refuse-requires-2
 refuse-requires-2 c κs = search needs
 
 returns-2 : tie.Need-returns-2
-returns-2 c = let a = c .before .before .before .before .before .before .before .before .before .args in let v = scanned (a .f) (a .file .now) (c .before .before .before .before .read-header .ensures .0) (c .before .before .before .scan-sections .ensures) in c .refuse2 .ensures ∙ ap refusedBy v ∙ as-sections (a .f) (a .file .now) (told (c .before .before .before .before .before .before .before .check-header .ensures) (c .before .before .before .before .before .before .refuses .ensures) (c .before .before .before .before .before .if1 .left)) (told v (c .before .before .refuses2 .ensures) (c .before .if2 .taken))
+returns-2 c = let a = c .before .before .before .before .before .before .before .before .before .args in let v = scanned (a .f) (a .file .now) (c .before .before .before .before .read-header .ensures .0) (c .before .before .before .scan-sections .ensures) in c .refuse2 .ensures ∙ ap blank v ∙ as-sections (a .f) (a .file .now) (told (c .before .before .before .before .before .before .before .check-header .ensures) (c .before .before .before .before .before .before .refuses .ensures) (c .before .before .before .before .before .if1 .left)) (told v (c .before .before .refuses2 .ensures) (c .before .if2 .taken))
 
 open-symbols-requires : tie.Need-open-symbols-requires
 open-symbols-requires c κs = search needs

@@ -1,6 +1,6 @@
 use borrow.Author.Needs.{needs}
 use Rattle.file_tables.specs.Tables.{blankSections}
-use Rattle.header.specs.Open.{refusedBy, blankSummary}
+use Rattle.header.specs.Open.{blankSummary}
 use Rattle.header.proofs.refuse.Statement.{statement}
 use Rattle.header.proofs.refuse.Tie as tie
 
@@ -8,7 +8,7 @@ blank-section-requires : tie.Need-blank-section-requires
 blank-section-requires c κs = search needs
 
 returns : tie.Need-returns
-unfolding refusedBy blankSummary blankSections
+unfolding blankSummary blankSections
 returns c = rw (c .blank-section .ensures)
 
 pub refuse-spec : {M : Type 1} → statement M

@@ -1,4 +1,4 @@
-use Rattle.symbol_lookup.proofs.Names.{rest-zero}
+use Rattle.import_table.proofs.Rest.{rest-zero}
 use borrow.Author.Needs.{needs}
 use Rattle.import_table.proofs.string_length.Statement.{statement}
 use Rattle.import_table.proofs.string_length.Tie as tie

@@ -1,7 +1,10 @@
-use borrow.Author.Tests.{lt-ltb, le-ltb, not-true, not-false}
+use mathlib.Core.Path.{sym}
+use native.Mathlib.Omega.{arith}
+use borrow.Author.Tests.{lt-ltb, not-true, not-false}
 use borrow.Author.Needs.{needs}
 use Rattle.word.proofs.Test.{found}
 use Rattle.loader_symbol.specs.Symbol.{symbolCheck, entryCheck}
+use Rattle.loader_symbol.proofs.Checks.{type-above, not-placed}
 use Rattle.loader_symbol.proofs.check_symbol.Statement.{statement}
 use Rattle.loader_symbol.proofs.check_symbol.Tie as tie
 
@@ -18,8 +21,8 @@ add-t15 : tie.Need-add-t15
 add-t15 c = search needs
 
 returns : tie.Need-returns
-unfolding symbolCheck entryCheck
-returns c = rw (le-ltb _ 4 (rw (c .before .before .read-entry .ensures) at (c .if1 .taken)))
+unfolding symbolCheck
+returns c = let h = rw (c .before .before .read-entry .ensures) at (c .if1 .taken) in sym (type-above _ _ _ _ _ _ (omega (arith, h)))
 
 is-placed-requires : tie.Need-is-placed-requires
 is-placed-requires c κs = search needs
@@ -28,8 +31,10 @@ add-t18 : tie.Need-add-t18
 add-t18 c = search needs
 
 returns-2 : tie.Need-returns-2
-unfolding symbolCheck entryCheck
-returns-2 c = rw (lt-ltb _ 4 (rw (c .before .before .before .before .read-entry .ensures) at (c .before .before .if1 .left)), found (rw (c .before .before .before .before .read-entry .ensures) at (c .before .is-placed .ensures)) (not-true _ (c .if2 .taken)))
+unfolding symbolCheck
+returns-2 c =
+    let h = found (rw (c .before .before .before .before .read-entry .ensures) at (c .before .is-placed .ensures)) (not-true _ (c .if2 .taken)) in
+    sym (not-placed _ _ _ _ _ _ h)
 
 add-name-range : tie.Need-add-name-range
 add-name-range c = search needs

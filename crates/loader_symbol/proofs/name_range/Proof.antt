@@ -1,18 +1,17 @@
-use lib.ListN.{length}
-use borrow.Author.Needs.{needs}
-use Rattle.loader_header.proofs.Places.{entry-inside}
+use native.Mathlib.Omega.{arith}
 use Rattle.loader_symbol.specs.Symbol.{nameIn}
+use borrow.Author.Needs.{needs}
 use Rattle.loader_symbol.proofs.name_range.Statement.{statement}
 use Rattle.loader_symbol.proofs.name_range.Tie as tie
 
 enum-told : tie.Need-enum-told
 enum-told c = search needs
 
-symbol-layout-requires : tie.Need-symbol-layout-requires
-symbol-layout-requires c κs = search needs
+short-name-requires : tie.Need-short-name-requires
+short-name-requires c κs = search needs
 
 text-in-requires : tie.Need-text-in-requires
-text-in-requires c κs = entry-inside (c .before .before .before .before .before .args .f) (c .before .before .before .before .before .args .base) (length (c .before .before .before .before .before .args .file .now)) (c .before .symbol-layout .ensures) (c .before .before .before .before .before .pre .1) .2
+text-in-requires c κs = rw (c .short-name .ensures) (omega (arith, c .before .before .before .before .pre .1))
 
 enum-known-name : tie.Need-enum-known-name
 enum-known-name c = search needs
@@ -22,7 +21,7 @@ string-range-requires c κs = search needs
 
 returns : tie.Need-returns
 unfolding nameIn
-returns c = rw (c .before .before .before .enum-told .given .1, c .text-in .ensures, c .before .before .symbol-layout .ensures)
+returns c = rw (c .before .before .enum-told .given .1, c .text-in .ensures, c .before .short-name .ensures)
 
 returns-2 : tie.Need-returns-2
 unfolding nameIn
@@ -33,7 +32,7 @@ name-range-spec =
     tie.close
     (tie.spec
     enum-told
-    symbol-layout-requires
+    short-name-requires
     text-in-requires
     enum-known-name
     string-range-requires

@@ -1,6 +1,6 @@
 use native.Mathlib.Omega.{arith}
 use borrow.Author.Needs.{needs}
-use Rattle.clash.proofs.Readable.{bytes-few}
+use Rattle.field_overlap.proofs.Readable.{bytes-few}
 use Rattle.overlap.proofs.CellLaws.{lower-other}
 use Rattle.overlap.proofs.lower.Statement.{statement}
 use Rattle.overlap.proofs.lower.Tie as tie
@@ -15,7 +15,7 @@ bytes-wide-requires : tie.Need-bytes-wide-requires
 bytes-wide-requires c κs = search needs
 
 add-if2 : tie.Need-add-if2
-add-if2 c = omega (arith, bytes-few (c .before .before .before .before .args .e .wide), c .before .before .before .before .pre .0, c .before .bytes-wide .ensures)
+add-if2 c = omega (arith, bytes-few (c .before .before .before .before .args .e .wide), c .before .before .before .before .pre .0, c .before .bytes-wide .ensures .0)
 
 returns-2 : tie.Need-returns-2
 returns-2 c = search needs

@@ -3,7 +3,7 @@ use Prim.Native.Nat.{_+_, _-_, _≤_}
 use borrow.Author.Needs.{needs}
 use native.Mathlib.Omega.{arith}
 use mathlib.Core.Path.{_≡_, _∙_, refl}
-use Rattle.clash.proofs.Readable.{offset-small}
+use Rattle.field_overlap.proofs.Readable.{offset-small}
 use Rattle.overlap.proofs.CellLaws.{PassSoFar, so-far-none, pass-stop, pass-turn, pass-end, cells-none}
 use Rattle.overlap.specs.Cells.{CellsAre}
 use Rattle.relocation.specs.Relocation.{placeAt}

@@ -2,7 +2,7 @@ use lib.ListN.{length}
 use Prim.Native.Nat.{_+_, _-_}
 use native.Mathlib.Omega.{arith}
 use mathlib.Core.Path.{_≡_, _∙_, refl}
-use Rattle.clash.proofs.Readable.{readable-less}
+use Rattle.field_overlap.proofs.Readable.{readable-less}
 use Rattle.overlap.proofs.CellLaws.{sweep-none, sweep-turn, sweep-end}
 use Rattle.overlap.specs.Cells.{SweepOut}
 use Rattle.relocation.specs.Relocation.{placeAt}

@@ -21,7 +21,7 @@ one-if-requires-2 c κs = search needs
 
 returns : tie.Need-returns
 unfolding relocationRow
-returns c = rw (c .one-if2 .ensures, c .before .bytes-wide .ensures, c .before .before .one-if .ensures, c .before .before .before .before .before .relocation-at .ensures, c .before .before .before .before .before .before .entry-in .ensures) refl
+returns c = rw (c .one-if2 .ensures, c .before .bytes-wide .ensures .0, c .before .before .one-if .ensures, c .before .before .before .before .before .relocation-at .ensures, c .before .before .before .before .before .before .entry-in .ensures) refl
 
 pub relocation-row-spec : {M : Type 1} → statement M
 relocation-row-spec =

@@ -24,7 +24,7 @@ same-length-2 : tie.Need-same-length-2
 same-length-2 c = search needs
 
 returns : tie.Need-returns
-returns c = by-call _ _ _ _ _ (c .before .before .before .before .do-build .ensures) (callAt-build (c .before .before .before .before .before .before .before .before .before .before .before .before .before .args .s .now) (c .before .before .before .before .before .before .before .before .before .before .before .before .before .args .at) (c .before .before .before .before .before .before .before .if1 .taken))
+returns c = by-call _ _ _ _ _ _ _ _ (c .before .before .before .before .do-build .ensures) (callAt-build (c .before .before .before .before .before .before .before .before .before .before .before .before .before .args .s .now) (c .before .before .before .before .before .before .before .before .before .before .before .before .before .args .at) (c .before .before .before .before .before .before .before .if1 .taken))
 
 add-do-move : tie.Need-add-do-move
 add-do-move c = omega (arith, call-inside (c .before .before .before .before .before .before .args .s .now) (c .before .before .before .before .before .before .args .at) (c .before .before .before .before .before .before .pre))
@@ -39,7 +39,7 @@ same-length-4 : tie.Need-same-length-4
 same-length-4 c = search needs
 
 returns-2 : tie.Need-returns-2
-returns-2 c = by-call _ _ _ _ _ (c .before .before .before .before .do-move .ensures) (callAt-move (c .before .before .before .before .before .before .before .before .before .before .before .before .before .args .s .now) (c .before .before .before .before .before .before .before .before .before .before .before .before .before .args .at) (c .before .before .before .before .before .before .before .if1 .left))
+returns-2 c = by-call _ _ _ _ _ _ _ _ (c .before .before .before .before .do-move .ensures) (callAt-move (c .before .before .before .before .before .before .before .before .before .before .before .before .before .args .s .now) (c .before .before .before .before .before .before .before .before .before .before .before .before .before .args .at) (c .before .before .before .before .before .before .before .if1 .left))
 
 pub answer-call-spec : {M : Type 1} → statement M
 answer-call-spec =

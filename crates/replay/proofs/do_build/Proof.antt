@@ -19,7 +19,7 @@ same-length-2 : tie.Need-same-length-2
 same-length-2 c = search needs
 
 returns : tie.Need-returns
-returns c = built-plan _ _ _ _ _ _ _ (c .before .before .before .before .before .before .before .before .addresses-at .ensures) (c .before .before .before .before .before .before .before .imports-at .ensures) (c .before .before .before .before .build-images .ensures .1 .1)
+returns c = built-plan _ _ _ _ _ _ _ _ _ _ (c .before .before .before .before .before .before .before .before .addresses-at .ensures) (c .before .before .before .before .before .before .before .imports-at .ensures) (c .before .before .before .before .build-images .ensures .0, c .before .before .before .before .build-images .ensures .1 .1)
 
 pub do-build-spec : {M : Type 1} → statement M
 do-build-spec =

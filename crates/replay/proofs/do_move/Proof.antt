@@ -28,7 +28,7 @@ same-length-2 : tie.Need-same-length-2
 same-length-2 c = search needs
 
 returns : tie.Need-returns
-returns c = moved-plans _ _ _ _ _ _ _ _ _ _ (c .before .before .before .before .before .before .before .before .before .before .before .plan-end .ensures) (c .before .before .before .before .before .before .before .before .before .before .addresses-at .ensures) (c .before .before .before .before .before .before .before .before .before .imports-at .ensures) (c .before .before .before .before .before .before .before .before .addresses-at2 .ensures) (c .before .before .before .before .before .before .before .imports-at2 .ensures) (c .before .before .before .before .move-images .ensures .1 .1)
+returns c = moved-plans _ _ _ _ _ _ _ _ _ _ _ _ _ (c .before .before .before .before .before .before .before .before .before .before .before .plan-end .ensures) (c .before .before .before .before .before .before .before .before .before .before .addresses-at .ensures) (c .before .before .before .before .before .before .before .before .before .imports-at .ensures) (c .before .before .before .before .before .before .before .before .addresses-at2 .ensures) (c .before .before .before .before .before .before .before .imports-at2 .ensures) (c .before .before .before .before .move-images .ensures .0, c .before .before .before .before .move-images .ensures .1 .1)
 
 pub do-move-spec : {M : Type 1} → statement M
 do-move-spec =

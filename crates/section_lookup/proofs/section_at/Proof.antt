@@ -3,7 +3,7 @@ use native.Mathlib.Omega.{arith}
 use borrow.Author.Needs.{needs}
 use Rattle.refusal.specs.declared.Verdict.the-variants.{Accepted}
 use Rattle.word.proofs.Test.{found}
-use Rattle.section_lookup.proofs.Lookup.{looked-up, known, inside, section-refused, section-found}
+use Rattle.section_lookup.proofs.Lookup.{looked-up, same-count, known, inside, section-refused, section-found}
 use Rattle.refusal.proofs.Report.{reported}
 use Rattle.section_lookup.specs.Lookup.{lookupCheck, reportOfSection}
 use Rattle.section_lookup.proofs.section_at.Statement.{statement}
@@ -28,18 +28,23 @@ enum-told : tie.Need-enum-told
 enum-told c = search needs
 
 sub-i : tie.Need-sub-i
-sub-i c = let k = known _ _ (accepted (c .before)) in omega arith
+sub-i c =
+    let k = known _ _ (accepted (c .before)) in
+    let s = same-count (c .before .before .before .before .before .«open» .ensures .0) in
+    omega arith
 
 mul-section : tie.Need-mul-section
 mul-section c =
     let k = known _ _ (accepted (c .before)) in
     let few = inside _ _ (accepted (c .before)) .few in
+    let s = same-count (c .before .before .before .before .before .«open» .ensures .0) in
     omega arith
 
 element-copy-out-section : tie.Need-element-copy-out-section
 element-copy-out-section c =
     let k = known _ _ (accepted (c .before)) in
     let few = inside _ _ (accepted (c .before)) .few in
+    let s = same-count (c .before .before .before .before .before .«open» .ensures .0) in
     search needs
 
 returns : tie.Need-returns

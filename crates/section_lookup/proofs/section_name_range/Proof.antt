@@ -44,7 +44,10 @@ section-start-requires c κs =
 
 text-in-requires : tie.Need-text-in-requires
 text-in-requires c κs =
-    name-whole _ _ (accepted (c .before .before .before .before)) (c .before .before .before .before .before .before .before .before .«open» .ensures .0) (c .before .before .before .section-layout .ensures) (c .section-start .ensures)
+    let k = known _ _ (accepted (c .before .before .before .before)) in
+    name-whole _ _ (accepted (c .before .before .before .before)) _
+    (omega arith)
+    (c .before .before .before .before .before .before .before .before .«open» .ensures .0) (c .before .before .before .section-layout .ensures) (c .section-start .ensures)
 
 returns : tie.Need-returns
 returns c =

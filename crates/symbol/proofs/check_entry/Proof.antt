@@ -1,9 +1,7 @@
-use mathlib.Core.Logic.{⊎-elim, inl, inr}
-use native.Mathlib.Omega.{arith}
-use borrow.Author.Needs.{needs}
-use Rattle.symbol.specs.Symbol.{nameCheck}
-use Rattle.symbol.proofs.Checks.{check-aux, check-scnum, check-rest}
+use borrow.Author.Tests.{not-true, not-false}
 use Rattle.word.proofs.Test.{found}
+use Rattle.symbol.proofs.Checks.{check-aux, check-scnum, check-name, check-none}
+use borrow.Author.Needs.{needs}
 use Rattle.symbol.proofs.check_entry.Statement.{statement}
 use Rattle.symbol.proofs.check_entry.Tie as tie
 
@@ -14,19 +12,32 @@ ends-past-requires : tie.Need-ends-past-requires
 ends-past-requires c κs = search needs
 
 returns : tie.Need-returns
-returns c = let s = c .before .before .before .before in check-aux (s .args .file .now) (s .args .t) (s .args .i) (s .args .e) (s .pre .2) (found (c .before .ends-past .ensures) (c .if1 .taken))
+returns c = check-aux _ _ _ _ (found (c .before .ends-past .ensures) (c .if1 .taken))
+
+is-section-requires : tie.Need-is-section-requires
+is-section-requires c κs = search needs
 
 returns-2 : tie.Need-returns-2
-returns-2 c = let s = c .before .before .before .before .before .before .before .before .before in check-scnum (s .args .file .now) (s .args .t) (s .args .i) (s .args .e) (s .pre .2) (found (c .before .before .before .before .before .before .ends-past .ensures) (c .before .before .before .before .before .if1 .left)) (c .before .before .if2 .taken) (omega arith)
+returns-2 c = check-scnum _ _ _ _ (found (c .before .before .before .ends-past .ensures) (c .before .before .if1 .left)) (found (c .before .is-section .ensures) (not-true _ (c .if2 .taken)))
 
-check-name-requires : tie.Need-check-name-requires
-check-name-requires c κs = search needs
+has-name-requires : tie.Need-has-name-requires
+has-name-requires c κs = search needs
 
 returns-3 : tie.Need-returns-3
-unfolding nameCheck
-returns-3 c = let s = c .before .before .before .before .before .before .before .before in rw (c .check-name .ensures) (check-rest (s .args .file .now) (s .args .t) (s .args .i) (s .args .e) (s .pre .2) (found (c .before .before .before .before .before .ends-past .ensures) (c .before .before .before .before .if1 .left)) (⊎-elim (λ w. inr (w .2 .left)) (λ w. inl (w .left)) (c .before .if2 .came)))
+returns-3 c = check-name _ _ _ _ (found (c .before .before .before .before .before .ends-past .ensures) (c .before .before .before .before .if1 .left)) (found (c .before .before .before .is-section .ensures) (not-false _ (c .before .before .if2 .left))) (c .before .before .before .before .before .before .before .before .pre .0) (found (c .before .has-name .ensures) (not-true _ (c .if3 .taken)))
+
+returns-4 : tie.Need-returns-4
+returns-4 c = check-none _ _ _ _ (found (c .before .before .before .before .before .ends-past .ensures) (c .before .before .before .before .if1 .left)) (found (c .before .before .before .is-section .ensures) (not-false _ (c .before .before .if2 .left))) (c .before .before .before .before .before .before .before .before .pre .0) (found (c .before .has-name .ensures) (not-false _ (c .if3 .left)))
 
 pub check-entry-spec : {M : Type 1} → statement M
 check-entry-spec =
     tie.close
-    (tie.spec add-ends-past ends-past-requires returns returns-2 check-name-requires returns-3)
+    (tie.spec
+    add-ends-past
+    ends-past-requires
+    returns
+    is-section-requires
+    returns-2
+    has-name-requires
+    returns-3
+    returns-4)

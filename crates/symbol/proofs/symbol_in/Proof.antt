@@ -1,19 +1,13 @@
-use borrow.Author.Needs.{needs}
 use Rattle.symbol.proofs.Checks.{symbol-none, symbol-judged}
+use borrow.Author.Needs.{needs}
 use Rattle.symbol.proofs.symbol_in.Statement.{statement}
 use Rattle.symbol.proofs.symbol_in.Tie as tie
 
 returns : tie.Need-returns
 returns c = symbol-none _ _ _ (c .if1 .taken)
 
-mul-base : tie.Need-mul-base
-mul-base c = search needs
-
-add-base : tie.Need-add-base
-add-base c = search needs
-
-read-entry-requires : tie.Need-read-entry-requires
-read-entry-requires c κs = search needs
+entry-in-requires : tie.Need-entry-in-requires
+entry-in-requires c κs = search needs
 
 check-entry-requires : tie.Need-check-entry-requires
 check-entry-requires c κs = search needs
@@ -28,19 +22,17 @@ symbol-of-requires : tie.Need-symbol-of-requires
 symbol-of-requires c κs = search needs
 
 returns-2 : tie.Need-returns-2
-returns-2 c = let a = c .before .before .before .before .before .before .before .before .before .before .before .before .args in rw (c .before .v .given .1) at (symbol-judged (a .file .now) (a .t) (a .i) (c .before .before .before .before .read-entry .ensures) (c .before .before .before .check-entry .ensures))
+returns-2 c = let a = c .before .before .before .before .before .before .before .before .before .args in rw (c .before .v .given .1) at (symbol-judged (a .file .now) (a .t) (a .i) (c .before .before .before .before .before .if1 .left) (c .before .before .before .before .entry-in .ensures) (c .before .before .before .check-entry .ensures))
 
 returns-3 : tie.Need-returns-3
-returns-3 c = let a = c .before .before .before .before .before .before .before .before .before .before .before .before .args in rw (c .symbol-of .ensures) (rw (c .before .enum-told .given .1) at (symbol-judged (a .file .now) (a .t) (a .i) (c .before .before .before .before .read-entry .ensures) (c .before .before .before .check-entry .ensures)))
+returns-3 c = let a = c .before .before .before .before .before .before .before .before .before .args in rw (c .symbol-of .ensures) (rw (c .before .enum-told .given .1) at (symbol-judged (a .file .now) (a .t) (a .i) (c .before .before .before .before .before .if1 .left) (c .before .before .before .before .entry-in .ensures) (c .before .before .before .check-entry .ensures)))
 
 pub symbol-in-spec : {M : Type 1} → statement M
 symbol-in-spec =
     tie.close
     (tie.spec
     returns
-    mul-base
-    add-base
-    read-entry-requires
+    entry-in-requires
     check-entry-requires
     enum-known-v
     enum-told

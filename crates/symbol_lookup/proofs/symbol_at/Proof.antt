@@ -1,7 +1,7 @@
 use mathlib.Core.Path.{_∙_}
-use borrow.Author.Needs.{needs}
-use Rattle.symbol.proofs.Checks.{tables-inside}
+use Rattle.symbol.proofs.Opened.{opened-tables}
 use Rattle.symbol_lookup.proofs.Lookup.{at-refused, at-opened, symbol-reported}
+use borrow.Author.Needs.{needs}
 use Rattle.symbol_lookup.proofs.symbol_at.Statement.{statement}
 use Rattle.symbol_lookup.proofs.symbol_at.Tie as tie
 
@@ -15,19 +15,16 @@ enum-told : tie.Need-enum-told
 enum-told c = search needs
 
 tables-of-requires : tie.Need-tables-of-requires
-tables-of-requires c κs = search needs
-
-names-end-requires : tie.Need-names-end-requires
-names-end-requires c κs = tables-inside (c .before .before .before .before .before .before .before .args .file .now) (c .before .before .before .before .before .«open» .ensures .0) (c .before .before .before .enum-told .given .1) (c .before .tables-of .ensures) .strings
+tables-of-requires c κs = opened-tables (c .before .before .before .before .before .args .file .now) (c .before .before .before .«open» .ensures .0) (c .before .enum-told .given .1)
 
 symbol-in-requires : tie.Need-symbol-in-requires
-symbol-in-requires c κs = (tables-inside (c .before .before .before .before .before .before .before .before .args .file .now) (c .before .before .before .before .before .before .«open» .ensures .0) (c .before .before .before .before .enum-told .given .1) (c .before .before .tables-of .ensures), c .names-end .ensures)
+symbol-in-requires c κs = search needs
 
 returns : tie.Need-returns
 returns c = let a = c .before .before .before .before .before .args in symbol-reported _ _ (at-refused (a .file .now) (a .i) (c .before .before .before .«open» .ensures .0) (c .before .v .given .1))
 
 returns-2 : tie.Need-returns-2
-returns-2 c = let a = c .before .before .before .before .before .before .before .before .before .args in symbol-reported _ _ (rw (c .before .before .before .tables-of .ensures) at (c .symbol-in .ensures) ∙ at-opened (a .file .now) (a .i) (c .before .before .before .before .before .before .before .«open» .ensures .0) (c .before .before .before .before .before .enum-told .given .1))
+returns-2 c = let a = c .before .before .before .before .before .before .before .args in symbol-reported _ _ (c .symbol-in .ensures ∙ at-opened (a .file .now) (a .i) (c .before .tables-of .ensures))
 
 pub symbol-at-spec : {M : Type 1} → statement M
 symbol-at-spec =
@@ -37,7 +34,6 @@ symbol-at-spec =
     enum-known-v
     enum-told
     tables-of-requires
-    names-end-requires
     symbol-in-requires
     returns
     returns-2)

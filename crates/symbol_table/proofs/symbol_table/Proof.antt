@@ -1,5 +1,6 @@
-use borrow.Author.Needs.{needs}
+use Rattle.symbol.proofs.Opened.{opened-tables}
 use Rattle.symbol_table.proofs.Visits.{table-listed, table-refused}
+use borrow.Author.Needs.{needs}
 use Rattle.symbol_table.proofs.symbol_table.Statement.{statement}
 use Rattle.symbol_table.proofs.symbol_table.Tie as tie
 
@@ -13,10 +14,10 @@ enum-told : tie.Need-enum-told
 enum-told c = search needs
 
 tables-of-requires : tie.Need-tables-of-requires
-tables-of-requires c κs = search needs
+tables-of-requires c κs = opened-tables (c .before .before .before .before .before .before .args .file .now) (c .before .before .before .«open» .ensures .0) (c .before .enum-told .given .1)
 
 list-symbols-requires : tie.Need-list-symbols-requires
-list-symbols-requires c κs = record { accepted = rw (c .before .before .before .before .before .«open» .ensures .0) at (c .before .before .before .enum-told .given .1); tables = rw (c .before .before .before .before .before .«open» .ensures .0) at (c .before .tables-of .ensures) }
+list-symbols-requires c κs = c .before .tables-of .ensures
 
 returns : tie.Need-returns
 returns c = table-refused (c .before .before .before .before .before .before .args .file .now) (c .before .before .before .before .before .before .args .out .now) (c .before .before .before .«open» .ensures .0) (c .before .v .given .1)
@@ -25,7 +26,7 @@ same-length : tie.Need-same-length
 same-length c = search needs
 
 returns-2 : tie.Need-returns-2
-returns-2 c = table-listed (c .before .before .before .before .before .before .before .before .before .before .before .args .file .now) (c .before .before .before .before .before .before .before .before .before .before .before .args .out .now) (c .before .before .before .before .before .before .before .before .«open» .ensures .0) (c .before .before .before .before .before .before .enum-told .given .1) (c .before .before .before .before .tables-of .ensures) (c .before .before .list-symbols .ensures .0) (c .before .before .list-symbols .ensures .1)
+returns-2 c = let a = c .before .before .before .before .before .before .before .before .before .before .before .args in table-listed (a .file .now) (a .out .now) (c .before .before .before .before .tables-of .ensures) (c .before .before .list-symbols .ensures .0) (c .before .before .list-symbols .ensures .1)
 
 pub symbol-table-spec : {M : Type 1} → statement M
 symbol-table-spec =

@@ -2,22 +2,23 @@ use borrow.Author.Needs.{needs}
 use Prim.Native.Nat.{_-_}
 use native.Mathlib.Omega.{arith}
 use Rattle.word.proofs.Test.{found}
-use Rattle.symbol_table.proofs.Opened.{inside}
-use Rattle.symbol_table.proofs.Visits.{Listing, listing-end, listing-next, listing-start, next-inside, row-inside, rows-ended, rows-stopped}
+use Rattle.symbol.proofs.Opened.{tables-inside}
+use Rattle.walk.proofs.Steps.{visited-stop, visited-end}
+use Rattle.symbol_table.proofs.Visits.{Listing, listing-end, listing-next, listing-start, next-inside, row-inside}
 use Rattle.symbol_table.proofs.write_symbols.Statement.{statement}
 use Rattle.symbol_table.proofs.write_symbols.Tie as tie
 
 abbrev Inv-loop : tie.InvT-loop
-Inv-loop file t ends out₀ count visited₀ i₀ out visited i = Listing file t out₀ out visited i
+Inv-loop file t out₀ count visited₀ i₀ out visited i = Listing file t out₀ out visited i
 
 abbrev μ-loop : tie.MeasureT-loop
-μ-loop file t ends out₀ count visited₀ i₀ out visited i = t .count - i
+μ-loop file t out₀ count visited₀ i₀ out visited i = t .count - i
 
 loop-holds : tie.Need-loop-holds Inv-loop μ-loop
-loop-holds c = let s = c .before .before in listing-start (s .args .file .now) (s .args .t) (s .args .out .now) (s .pre .2)
+loop-holds c = let s = c .before .before in listing-start (s .args .file .now) (s .args .t) (s .args .out .now) (s .pre .1)
 
 symbol-in-requires : tie.Need-symbol-in-requires Inv-loop μ-loop
-symbol-in-requires c κs = let s = c .before .before .before .before in (inside (s .args .file .now) (s .args .t) (s .pre .0), s .pre .1)
+symbol-in-requires c κs = c .before .before .before .before .pre .0
 
 enum-known-a : tie.Need-enum-known-a Inv-loop μ-loop
 enum-known-a c = search needs
@@ -33,10 +34,10 @@ returns c =
     let s = c .before .before .before .before .before .before .before in
     let a = s .args in
     let l = c .before .before .before .before .loop in
-    listing-end (a .file .now) (a .t) (a .out .now) (l .visited) (l .i) (rows-stopped (a .file .now) (a .t) (l .out) (l .visited) (l .i) (c .before .before .before .loop-test .taken) (l .inv) (found (c .before .before .symbol-in .ensures) (c .enum-told .given .1))) (s .pre .2) (l .inv)
+    listing-end (a .file .now) (a .t) (a .out .now) (l .visited) (l .i) (visited-stop (a .file .now) (a .t) (l .i) (l .visited) (l .inv .few) (c .before .before .before .loop-test .taken) (found (c .before .before .symbol-in .ensures) (c .enum-told .given .1))) (s .pre .1) (l .inv)
 
 symbol-row-requires : tie.Need-symbol-row-requires Inv-loop μ-loop
-symbol-row-requires c κs = let s = c .before .before .before .before .before .before .before .before in (s .pre .0, s .pre .1, found (c .before .before .before .symbol-in .ensures) (c .before .a .given .1))
+symbol-row-requires c κs = let s = c .before .before .before .before .before .before .before .before in (s .pre .0, found (c .before .before .before .symbol-in .ensures) (c .before .a .given .1))
 
 slice-aggregate-write-row : tie.Need-slice-aggregate-write-row Inv-loop μ-loop
 slice-aggregate-write-row c = search needs
@@ -64,7 +65,7 @@ add-i-2 c =
     let s = c .before .before .before .before .before .before .before .before .before .before .before .before .before .before .before in
     let a = s .args in
     let l = c .before .before .before .before .before .before .before .before .before .before .before .before .loop in
-    let t = inside (a .file .now) (a .t) (s .pre .0) in
+    let t = tables-inside (a .file .now) (a .t) (s .pre .0) in
     omega (arith, t .symbols, t .small, next-inside (a .file .now) (a .t) (l .out) (l .visited) (l .i) (c .before .before .before .before .before .before .before .before .before .before .before .loop-test .taken) (l .inv) (found (c .before .before .before .before .before .before .before .before .before .before .symbol-in .ensures) (c .before .before .before .before .before .before .before .before .a .given .1)))
 
 loop-less : tie.Need-loop-less Inv-loop μ-loop
@@ -87,7 +88,7 @@ returns-2 c =
     let s = c .before .before .before .before in
     let a = s .args in
     let l = c .before .loop in
-    listing-end (a .file .now) (a .t) (a .out .now) (l .visited) (l .i) (rows-ended (a .file .now) (a .t) (l .visited) (l .i) (c .loop-test .left)) (s .pre .2) (l .inv)
+    listing-end (a .file .now) (a .t) (a .out .now) (l .visited) (l .i) (visited-end (a .file .now) (a .t) _ (l .i) (c .loop-test .left)) (s .pre .1) (l .inv)
 
 pub write-symbols-spec : {M : Type 1} → statement M
 write-symbols-spec =

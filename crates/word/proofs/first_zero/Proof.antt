@@ -1,51 +1,42 @@
-use Prim.Native.Nat.{_+_, _-_, _≤_}
-use native.Mathlib.Nat.{zero-add}
-use lib.ListN.{length, drop}
-use mathlib.Core.Path.{_≡_}
+use lib.Seq.{length-take-le}
+use mathlib.Core.Path.{sym}
 use borrow.Author.Needs.{needs}
-use native.Mathlib.Omega.{arith}
-use Rattle.word.specs.Zero.{firstZero}
-use Rattle.word.proofs.Zero.{zero-here, zero-later, zero-none}
 use Rattle.word.proofs.first_zero.Statement.{statement}
 use Rattle.word.proofs.first_zero.Tie as tie
 
-abbrev Inv-loop : tie.InvT-loop
-Inv-loop s i₀ i = (i ≤ length s) × (firstZero s ≡ i + firstZero (drop i s))
+scan-first-requires : tie.Need-scan-first-requires
+scan-first-requires c κs = search needs
 
-abbrev μ-loop : tie.MeasureT-loop
-μ-loop s i₀ i = length s - i
+returns : tie.Need-returns
+returns c = search needs
 
-loop-holds : tie.Need-loop-holds Inv-loop μ-loop
-loop-holds c = (search needs, rw zero-add)
+slice-aggregate-has-zero : tie.Need-slice-aggregate-has-zero
+slice-aggregate-has-zero c = sym (length-take-le 16 (c .before .before .before .args .s .now) (search needs))
 
-shared-slice-read-if1 : tie.Need-shared-slice-read-if1 Inv-loop μ-loop
-shared-slice-read-if1 c = search needs
+has-zero-requires : tie.Need-has-zero-requires
+has-zero-requires c κs = search needs
 
-returns : tie.Need-returns Inv-loop μ-loop
-returns c = let l = c .before .before .before in omega (arith, zero-here (l .before .args .s .now) (l .loop .i) (search needs) (c .if1 .taken))
+scan-first-requires-2 : tie.Need-scan-first-requires-2
+scan-first-requires-2 c κs = search needs
 
-add-i : tie.Need-add-i Inv-loop μ-loop
-add-i c = search needs
+returns-2 : tie.Need-returns-2
+returns-2 c = search needs
 
-loop-less : tie.Need-loop-less Inv-loop μ-loop
-loop-less c = search needs
+far-zero-requires : tie.Need-far-zero-requires
+far-zero-requires c κs = search needs
 
-loop-again : tie.Need-loop-again Inv-loop μ-loop
-loop-again c = let l = c .before .before .before in (search needs, omega (arith, zero-later (l .before .args .s .now) (l .loop .i) (search needs) (c .if1 .left)))
-
-returns-2 : tie.Need-returns-2 Inv-loop μ-loop
-returns-2 c = omega (arith, zero-none (c .before .before .args .s .now) (c .before .loop .i) (search needs))
+returns-3 : tie.Need-returns-3
+returns-3 c = search needs
 
 pub first-zero-spec : {M : Type 1} → statement M
 first-zero-spec =
     tie.close
     (tie.spec
-    Inv-loop
-    μ-loop
-    loop-holds
-    shared-slice-read-if1
+    scan-first-requires
     returns
-    add-i
-    loop-less
-    loop-again
-    returns-2)
+    slice-aggregate-has-zero
+    has-zero-requires
+    scan-first-requires-2
+    returns-2
+    far-zero-requires
+    returns-3)

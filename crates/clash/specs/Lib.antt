@@ -1,3 +1,0 @@
--- What the contracts of `clash` cite.
-pub mod Overlap
-pub mod Ascending

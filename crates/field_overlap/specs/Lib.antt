@@ -1,0 +1,3 @@
+-- What the contracts of `field_overlap` cite.
+pub mod Overlap
+pub mod Ascending
