@@ -33,7 +33,8 @@
  *    7 STRINGS   string table length 1 to 3                                0
  *    8 INDEX     no such section, symbol, loader symbol or import id       the number asked for
  *    9 AUX       a symbol's auxiliary entries pass the table's end         index
- *   10 NAME      bad name offset                                           index
+ *   10 NAME      bad name offset, into the string table or, for a class    index
+ *                with bit 80 hex, into the one debug section
  *   11 SECTION   the symbol's section number names no section              index
  *   12 CSECT     no valid csect entry                                      index
  *   13 MODULE    not loadable                                              0 short auxiliary header; 1 not one text,
@@ -63,7 +64,7 @@
  * ids from 0. An index may be any number: INDEX is the answer where there is no such thing.
  *
  * Names are not copied: the answer is the offset and the length of the name in the file, without a closing zero. A name
- * may be empty, and it may hold any byte but zero.
+ * may be empty, and it may hold any byte but zero. What follows it in the file need not be a zero.
  */
 #ifndef XCOFF_H
 #define XCOFF_H
@@ -190,7 +191,8 @@ xcoff_open_answer xcoff_open(const uint8_t *file, size_t length);
 xcoff_section_answer xcoff_section(const uint8_t *file, size_t length, uint64_t n);
 xcoff_name_answer xcoff_section_name(const uint8_t *file, size_t length, uint64_t n);
 
-/* The symbol table entry i, and its name. The entry after it is at i + 1 + numaux. */
+/* The symbol table entry i, and its name: in the entry, in the string table or, of a storage class with bit 80 hex, in
+   the debug section. The entry after it is at i + 1 + numaux. */
 xcoff_symbol_answer xcoff_symbol(const uint8_t *file, size_t length, uint64_t i);
 xcoff_name_answer xcoff_symbol_name(const uint8_t *file, size_t length, uint64_t i);
 
@@ -328,8 +330,9 @@ xcoff_verdict xcoff_read_records(const uint8_t *file, size_t length, uint64_t te
  */
 
 /* A symbol that the walk visits. Its name starts at file + name and ends at the first zero in `room` bytes, or after
-   them; the length is not looked for, since many symbols may share one long string. The csect numbers are 0 where
-   csect is not 0. */
+   them; the length is not looked for, since many symbols may share one long string. The room is the entry's 8 bytes, all
+   up to the string table's end, or as many as the length before a name of the debug section says. The csect numbers are 0
+   where csect is not 0. */
 typedef struct xcoff_symbol_row {
     uint64_t index;
     uint64_t value;

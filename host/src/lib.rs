@@ -210,6 +210,7 @@ pub fn symbol(file: &[u8], i: u64) -> Result<Symbol, Refusal> {
     })
 }
 
+/// The name of symbol `i`: in its entry, the string table or, of a class with bit 80 hex, the debug section.
 pub fn symbol_name(file: &[u8], i: u64) -> Result<&[u8], Refusal> {
     part_of(file, ffi::symbol_name(file, i))
 }

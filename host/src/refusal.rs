@@ -55,7 +55,7 @@ impl Refusal {
             7 => "the string table has length 1, 2 or 3".into(),
             8 => format!("there is no number {i} of what was asked for"),
             9 => format!("the auxiliary entries of symbol {i} pass the table's end"),
-            10 => format!("the name offset of symbol {i} leads to no name in the string table"),
+            10 => format!("the name offset of symbol {i} leads to no name in the string table or debug section"),
             11 => format!("the section number of symbol {i} names no section"),
             12 => format!("symbol {i} has no valid csect entry"),
             13 => format!("the file is not a loadable module: {}", module(i)),

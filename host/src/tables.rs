@@ -25,6 +25,7 @@ pub struct SymbolRow<'a> {
     pub symbol: Symbol,
     /// None: there is no valid csect entry (12 CSECT).
     pub csect: Option<Csect>,
+    /// The bytes that the name may take; it ends at the first zero in them.
     room: &'a [u8],
 }
 

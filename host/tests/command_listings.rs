@@ -164,9 +164,8 @@ fn symbols_are_what_other_tools_list() {
             continue;
         }
         let (got, expected) = (rows(&ran.out, "index"), file.all("symbol"));
-        if ran.status == Some(0) {
-            assert_eq!(got.len(), expected.len(), "{}", file.name);
-        }
+        assert_eq!(ran.status, Some(0), "{}: {}", file.name, ran.err);
+        assert_eq!(got.len(), expected.len(), "{}", file.name);
         for (g, e) in got.iter().zip(expected) {
             compared += 1;
             same_symbol(&file.name, g, e);
@@ -195,10 +194,7 @@ fn same_symbol(name: &str, got: &[&str], expected: &Fact) {
         "{name}: auxiliaries of {index}"
     );
     assert_eq!(hex(got[1]), hex(&expected[5]), "{name}: value of {index}");
-    // Names in the debug section are not read so far.
-    if expected[6] != "?" {
-        assert_eq!(got[11], shown(&expected[6]), "{name}: name of {index}");
-    }
+    assert_eq!(got[11], shown(&expected[6]), "{name}: name of {index}");
 }
 
 fn same_csect(name: &str, got: &[&str], expected: Option<&Fact>) {
@@ -221,13 +217,17 @@ fn same_csect(name: &str, got: &[&str], expected: Option<&Fact>) {
 #[test]
 fn a_walk_that_stops_is_listed_up_to_there() {
     let folder = Folder::new();
-    folder.copy("gas-stabs-32.o");
+    let mut file = folder.copy("gas-stabs-32.o");
+    // The offset of symbol 4, a name of the debug section, now leads past it.
+    let start = u32::from_be_bytes(file[8..12].try_into().unwrap()) as usize;
+    file[start + 18 * 4 + 4] = 0x7F;
+    folder.write("gas-stabs-32.o", &file);
     let ran = folder.run(&["symbols", "gas-stabs-32.o"]);
     assert_eq!(ran.status, Some(1));
     assert_eq!(rows(&ran.out, "index").len(), 2);
     assert_eq!(
         ran.err,
-        "xcoff: gas-stabs-32.o: refused 10 4: NAME, the name offset of symbol 4 leads to no name in the string table\n"
+        "xcoff: gas-stabs-32.o: refused 10 4: NAME, the name offset of symbol 4 leads to no name in the string table or debug section\n"
     );
 }
 

@@ -4,7 +4,8 @@
 usage: make.py CASES.jsonl[.xz]...
 
 A line of CASES.jsonl is a JSON object: an operation with its arguments, the file and the answer that an independent
-reading of the rules gives. Of the answer only what the library gives is kept. README.md says what the texts look like.
+reading of the rules gives. Of the answer only what the library gives is kept. README.md says what the texts look like,
+and which cases are left out because a later request changes answers like theirs.
 """
 import json
 import lzma
@@ -180,22 +181,63 @@ def line(case):
     return "%s = %s" % (asked, refused(answer) or READ[case["op"]](answer))
 
 
+def symbol_table(data):
+    """The format's bits and every entry of the symbol table, auxiliary ones too; none where it is not in the file."""
+    bits = {b"\x01\xdf": 32, b"\x01\xf7": 64}.get(data[:2])
+    if bits is None or len(data) < 24:
+        return bits, []
+    number = lambda at, width: int.from_bytes(data[at:at + width], "big")
+    start, count = (number(8, 4), number(12, 4)) if bits == 32 else (number(8, 8), number(20, 4))
+    if start + 18 * count > len(data):
+        return bits, []
+    return bits, [data[start + 18 * i:start + 18 * (i + 1)] for i in range(count)]
+
+
+def entries_of(case, table):
+    """The entries that a case is about: the one asked for; of a csect also those before it, of a walk those on its way."""
+    if case["op"] == "symbol":
+        return table[case["index"]:case["index"] + 1]
+    if case["op"] == "csect":
+        return table[:case["index"] + 1]
+    found, i = [], 0
+    while case["op"] == "walk" and i < len(table):
+        found.append(table[i])
+        i += 1 + table[i][17]
+    return found
+
+
+def has_debug_name(bits, entry):
+    """A class with bit 80 hex, and the name by an offset other than 0."""
+    short = bits == 32 and any(entry[:4])
+    return entry[16] & 0x80 and not short and any(entry[4:8] if bits == 32 else entry[8:12])
+
+
+def stands(case):
+    """Whether no request that came after the case can change its answer. Request 1: names of debug classes."""
+    bits, table = symbol_table(file_of(case))
+    return 1 in case["requests"] or not any(has_debug_name(bits, entry) for entry in entries_of(case, table))
+
+
+def file_of(case):
+    return bytes.fromhex(case.get("file", "")).ljust(case.get("pad_to", 0), b"\0")
+
+
 def make(path):
     opener = lzma.open if path.endswith(".xz") else open
     with opener(path, "rt") as f:
-        cases = [json.loads(text) for text in f]
+        recorded = [json.loads(text) for text in f]
+    cases = [case for case in recorded if stands(case)]
     name = os.path.basename(path).split(".")[0]
     name = "cases.txt" if name == "base" else "cases-%s.txt" % name
     # Cases of one file stand together, so that it is there once.
     by_file = {}
     for case in cases:
-        data = bytes.fromhex(case.get("file", ""))
-        by_file.setdefault(hexed(data.ljust(case.get("pad_to", 0), b"\0")), []).append(line(case))
+        by_file.setdefault(hexed(file_of(case)), []).append(line(case))
     with open(os.path.join(HERE, name), "w") as f:
         for data, lines in by_file.items():
             f.write("file %s\n" % data)
             f.write("".join(text + "\n" for text in lines))
-    print("%s: %d cases, %d files" % (name, len(cases), len(by_file)))
+    print("%s: %d cases, %d left out, %d files" % (name, len(cases), len(recorded) - len(cases), len(by_file)))
 
 
 if __name__ == "__main__":

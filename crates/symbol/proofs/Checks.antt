@@ -38,11 +38,11 @@ module _ (file : List ℕ) (t : Tables) (i : SymbolIndex) (e : SymbolEntry) wher
     check-scnum q = rw (p, q) refl
 
     module _ (q : isSection (t .nscns) (e .scnum) ≡ true) (o : OpenTables file t) where
-      pub check-name : hasName (t .ends) (e .name) ≡ false → verdict.Refused (Name i) ≡ firstRefusal (symbolChecks file t i e)
+      pub check-name : hasName file t (e .sclass) (e .name) ≡ false → verdict.Refused (Name i) ≡ firstRefusal (symbolChecks file t i e)
       unfolding auxCheck scnumCheck
       check-name r = rw (p, q, name-judged file t i e o, r) refl
 
-      pub check-none : hasName (t .ends) (e .name) ≡ true → verdict.Accepted ≡ firstRefusal (symbolChecks file t i e)
+      pub check-none : hasName file t (e .sclass) (e .name) ≡ true → verdict.Accepted ≡ firstRefusal (symbolChecks file t i e)
       unfolding auxCheck scnumCheck
       check-none r = rw (p, q, name-judged file t i e o, r) refl
 

@@ -10,16 +10,17 @@ use Rattle.refusal.specs.declared.Refusal.the-variants.{Name}
 use Rattle.refusal.specs.declared.RangeAnswer.{RangeAnswer}
 use Rattle.refusal.specs.declared.RangeAnswer.the-variants.{Found, Refused}
 use Rattle.refusal.specs.Part.{rangeBytes}
+use Rattle.debug_section.specs.declared.DebugSection.the-variants.{NotOne}
 use Rattle.symbol.specs.declared.Tables.{Tables}
 use Rattle.symbol.specs.declared.SymbolEntry.{SymbolEntry}
 use Rattle.format.specs.declared.NameField.the-variants.{Offset}
-use Rattle.symbol.specs.Name.{stringRoom, roomBy, nameIn}
+use Rattle.symbol.specs.Name.{stringRoom, isDebugClass, roomBy, nameIn}
 
 abbrev pub strings : List ℕ
 strings = 0 ∷ 0 ∷ 0 ∷ 7 ∷ 0x61 ∷ 0x62 ∷ 0 ∷ []
 
 abbrev pub tables : Tables
-tables = record { format = Xcoff32; nscns = 0; start = record { 0 = 0 }; count = 0; strings = range 0 7; ends = 7 }
+tables = record { format = Xcoff32; nscns = 0; start = record { 0 = 0 }; count = 0; strings = range 0 7; ends = 7; debug = NotOne }
 
 abbrev pub index : SymbolIndex
 index = record { 0 = 9 }
@@ -34,5 +35,5 @@ named o = (nameIn strings tables index (entry o), rangeBytes strings (nameIn str
 
 -- P10: offset 4 is `ab`, 6 is empty, 3 and 7 are NAME
 pub p10 : map named (4 ∷ 6 ∷ 3 ∷ 7 ∷ []) ≡ (Found (range 4 2), 0x61 ∷ 0x62 ∷ []) ∷ (Found (range 6 0), []) ∷ (Refused (Name index), []) ∷ (Refused (Name index), []) ∷ []
-unfolding roomBy stringRoom firstZero
+unfolding roomBy isDebugClass stringRoom firstZero
 p10 = refl

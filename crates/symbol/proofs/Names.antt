@@ -23,10 +23,12 @@ use Rattle.refusal.specs.Part.{Within}
 use Rattle.refusal.proofs.Order.{not-accepted}
 use Rattle.format.specs.declared.NameField.{NameField}
 use Rattle.format.specs.declared.NameField.the-variants.{Short, Offset}
+use Rattle.debug_section.specs.Debug.{hasString, stringRange, DebugInside}
+use Rattle.debug_section.proofs.Strings.{range-inside}
 use Rattle.symbol.specs.declared.Tables.{Tables}
 use Rattle.symbol.specs.declared.SymbolEntry.{SymbolEntry}
 use Rattle.symbol.specs.Entry.{OpenTables}
-use Rattle.symbol.specs.Name.{stringRoom, roomBy, hasName}
+use Rattle.symbol.specs.Name.{stringRoom, debugRoom, isDebugClass, roomBy, hasName}
 use Rattle.symbol.specs.Symbol.{verdictOf, nameCheck}
 use Rattle.symbol.proofs.Opened.{TablesInside, tables-inside, entry-whole}
 
@@ -82,42 +84,78 @@ module _ (file : List ℕ) (strings : FileRange) (o : ℕ) (i : SymbolIndex) whe
         by-low true p false q = ap verdictOf (sym (string-unended (ltb-false o _ q)))
         by-low true p true q = sym (string-ended (leb-true 4 o p) (ltb-true o _ q))
 
--- NAME of an entry of an opened file
-pub name-judged : (file : List ℕ) (t : Tables) (i : SymbolIndex) (e : SymbolEntry) → OpenTables file t → nameCheck file t i e ≡ refuseIf (not (hasName (t .ends) (e .name))) (Name i)
-unfolding nameCheck roomBy hasName
+-- ---- NAME of an entry of an opened file, by comparisons
+
+pub name-judged : (file : List ℕ) (t : Tables) (i : SymbolIndex) (e : SymbolEntry) → OpenTables file t → nameCheck file t i e ≡ refuseIf (not (hasName file t (e .sclass) (e .name))) (Name i)
+unfolding nameCheck roomBy debugRoom hasName
 name-judged file t i e o = by-field (e .name)
   where
     h : TablesInside file t
     h = tables-inside file t o
 
-    by-offset : (a : ℕ) (z : Bool) → verdictOf (cond z (Found (range 0 0)) (stringRoom file (t .strings) a i)) ≡ refuseIf (not (z || (leb 4 a && ltb a (t .ends)))) (Name i)
-    by-offset a true = refl
-    by-offset a false = rw (h .ends) (string-judged file (t .strings) a i (h .strings))
+    by-string : (z : Bool) (r : FileRange) → verdictOf (cond z (Found r) (Refused (Name i))) ≡ refuseIf (not z) (Name i)
+    by-string true r = refl
+    by-string false r = refl
 
-    by-field : (n : NameField) → verdictOf (roomBy file t i n) ≡ refuseIf (not (hasName (t .ends) n)) (Name i)
+    by-class : (a : ℕ) (d : Bool) → verdictOf (cond d (debugRoom file t a i) (stringRoom file (t .strings) a i)) ≡ refuseIf (not (cond d (hasString (t .format) file (t .debug) a) (leb 4 a && ltb a (t .ends)))) (Name i)
+    by-class a true = by-string (hasString (t .format) file (t .debug) a) (stringRange (t .format) file (t .debug) a)
+    by-class a false = rw (h .ends) (string-judged file (t .strings) a i (h .strings))
+
+    by-offset : (a : ℕ) (z : Bool) → verdictOf (cond z (Found (range 0 0)) (cond (isDebugClass (e .sclass)) (debugRoom file t a i) (stringRoom file (t .strings) a i))) ≡ refuseIf (not (z || cond (isDebugClass (e .sclass)) (hasString (t .format) file (t .debug) a) (leb 4 a && ltb a (t .ends)))) (Name i)
+    by-offset a true = refl
+    by-offset a false = by-class a (isDebugClass (e .sclass))
+
+    by-field : (n : NameField) → verdictOf (roomBy file t i (e .sclass) n) ≡ refuseIf (not (hasName file t (e .sclass) n)) (Name i)
     by-field Short = refl
     by-field (Offset a) = by-offset a (eqb a 0)
 
 -- ---- the bytes that a name may take, where NAME accepts
 
-module _ (file : List ℕ) (t : Tables) (i : SymbolIndex) (o : ℕ) where
-  -- an offset that is not 0 lies below the string table's length
-  pub offset-below : verdictOf (roomBy file t i (Offset o)) ≡ Accepted → (o ≡ 0 → ⊥) → o < t .strings .length
-  unfolding roomBy
-  offset-below e h = string-below file (t .strings) o i (rw (ne-eqb o 0 h) at e)
+module _ (file : List ℕ) (t : Tables) (i : SymbolIndex) (sclass o : ℕ) (e : verdictOf (roomBy file t i sclass (Offset o)) ≡ Accepted) (h : o ≡ 0 → ⊥) where
+  -- of a debug class
+  module _ (d : isDebugClass sclass ≡ true) where
+    debug-by : (z : Bool) (r : FileRange) → verdictOf (cond z (Found r) (Refused (Name i))) ≡ Accepted → (z ≡ true) × (Found r ≡ cond z (Found r) (Refused (Name i)))
+    debug-by true r k = (refl, refl)
+    debug-by false r k = not-accepted k
 
-  pub offset-room : verdictOf (roomBy file t i (Offset o)) ≡ Accepted → (o ≡ 0 → ⊥) → Found (range (t .strings .start .0 + o) (t .strings .length - o)) ≡ roomBy file t i (Offset o)
-  unfolding roomBy
-  offset-room e h = rw (ne-eqb o 0 h) (string-accepted file (t .strings) o i (rw (ne-eqb o 0 h) at e))
+    debug-both : (hasString (t .format) file (t .debug) o ≡ true) × (Found (stringRange (t .format) file (t .debug) o) ≡ debugRoom file t o i)
+    debug-both = unfold roomBy debugRoom in debug-by (hasString (t .format) file (t .debug) o) (stringRange (t .format) file (t .debug) o) (rw (ne-eqb o 0 h, d) at e)
+
+    pub debug-named : hasString (t .format) file (t .debug) o ≡ true
+    debug-named = debug-both .0
+
+    pub debug-room : {r : FileRange} → r ≡ stringRange (t .format) file (t .debug) o → Found r ≡ roomBy file t i sclass (Offset o)
+    unfolding roomBy
+    debug-room q = rw (ne-eqb o 0 h, d, q) (debug-both .1)
+
+  -- of another class: the offset lies below the string table's length
+  module _ (d : isDebugClass sclass ≡ false) where
+    pub offset-below : o < t .strings .length
+    unfolding roomBy
+    offset-below = string-below file (t .strings) o i (rw (ne-eqb o 0 h, d) at e)
+
+    pub offset-room : {r : FileRange} → r ≡ range (t .strings .start .0 + o) (t .strings .length - o) → Found r ≡ roomBy file t i sclass (Offset o)
+    unfolding roomBy
+    offset-room q = rw (ne-eqb o 0 h, d, q) (string-accepted file (t .strings) o i (rw (ne-eqb o 0 h, d) at e))
 
 -- they are in the file
-pub room-in-file : (file : List ℕ) (t : Tables) (i : SymbolIndex) (name : NameField) → OpenTables file t → i .0 < t .count → Within (length file) (roomBy file t i name)
-unfolding roomBy stringRoom
-room-in-file file t i Short h k = omega (arith, entry-whole file t (i .0) h k)
-room-in-file file t i (Offset o) h k =
-    let strings = t .strings in
+room-of-string : (file : List ℕ) (strings : FileRange) (o : ℕ) (i : SymbolIndex) → strings .start .0 + strings .length ≤ length file → Within (length file) (stringRoom file strings o i)
+unfolding stringRoom
+room-of-string file strings o i h =
     let n = firstZero (drop o (bytesOf file strings)) in
-    either (Within (length file)) (eqb o 0) (λ _. omega arith)
-    (λ _. either (Within (length file)) (ltb o 4 || leb (strings .length) o) (λ _. tt)
+    either (Within (length file)) (ltb o 4 || leb (strings .length) o) (λ _. tt)
     (λ p. either (Within (length file)) (leb (strings .length - o) n) (λ _. tt)
-    (λ _. omega (arith, tables-inside file t h .strings, leb-false (strings .length) o (or-second (ltb o 4) (leb (strings .length) o) p)))))
+    (λ _. omega (arith, h, leb-false (strings .length) o (or-second (ltb o 4) (leb (strings .length) o) p))))
+
+room-of-debug : (file : List ℕ) (t : Tables) (o : ℕ) (i : SymbolIndex) → DebugInside (length file) (t .debug) → Within (length file) (debugRoom file t o i)
+unfolding debugRoom
+room-of-debug file t o i h = either (Within (length file)) (hasString (t .format) file (t .debug) o) (λ k. range-inside (t .format) file (t .debug) o h k) (λ _. tt)
+
+pub room-in-file : (file : List ℕ) (t : Tables) (i : SymbolIndex) (sclass : ℕ) (name : NameField) → OpenTables file t → i .0 < t .count → Within (length file) (roomBy file t i sclass name)
+unfolding roomBy
+room-in-file file t i sclass Short h k = omega (arith, entry-whole file t (i .0) h k)
+room-in-file file t i sclass (Offset o) h k =
+    let inside = tables-inside file t h in
+    either (Within (length file)) (eqb o 0) (λ _. omega arith)
+    (λ _. either (Within (length file)) (isDebugClass sclass) (λ _. room-of-debug file t o i (inside .debug))
+    (λ _. room-of-string file (t .strings) o i (inside .strings)))

@@ -6,13 +6,16 @@ use native.Mathlib.Omega.{arith}
 use lib.ListN.{length}
 use Rattle.word.specs.Zero.{zeroEnd}
 use Rattle.format.specs.Layout.{symbolLength}
-use Rattle.format.specs.Limit.{fileLimit}
+use Rattle.format.specs.Limit.{fileLimit, sectionLimit}
 use Rattle.format.specs.Range.{bytesOf}
 use Rattle.refusal.specs.declared.Verdict.the-variants.{Accepted}
 use Rattle.header.specs.declared.Opened.{Opened}
 use Rattle.header.specs.declared.Summary.{Summary}
 use Rattle.header.specs.Open.{openOf}
 use Rattle.header.proofs.Accepted.{opened-inside}
+use Rattle.debug_section.specs.declared.DebugSection.{DebugSection}
+use Rattle.debug_section.specs.Debug.{debugOf, DebugInside}
+use Rattle.debug_section.proofs.Sections.{debug-inside}
 use Rattle.symbol.specs.declared.Tables.{Tables}
 use Rattle.symbol.specs.Entry.{OpenTables, entryStart}
 
@@ -22,11 +25,12 @@ pub record TablesInside (file : List ℕ) (t : Tables) : Type 0 where
   pub symbols : t .start .0 + t .count * symbolLength ≤ length file
   pub strings : t .strings .start .0 + t .strings .length ≤ length file
   pub ends : t .ends ≡ zeroEnd (bytesOf file (t .strings))
+  pub debug : DebugInside (length file) (t .debug)
 
 pub tables-inside : (file : List ℕ) (t : Tables) → OpenTables file t → TablesInside file t
 tables-inside file t o =
     let h = opened-inside file (o .accepted) in
-    rw (o .tables) record { small = h .small; symbols = h .symbols; strings = h .strings; ends = refl }
+    rw (o .tables) record { small = h .small; symbols = h .symbols; strings = h .strings; ends = refl; debug = debug-inside file (o .accepted) }
 
 -- an entry of the table is whole
 pub entry-whole : (file : List ℕ) (t : Tables) (i : ℕ) → OpenTables file t → i < t .count → entryStart t i + symbolLength ≤ length file
@@ -40,6 +44,9 @@ module _ (file : List ℕ) {y : Summary} (k : openOf file .verdict ≡ Accepted)
   pub strings-inside : y .symbols .strings .start .0 + y .symbols .strings .length ≤ length file
   strings-inside = rw e (opened-inside file k .strings)
 
-  pub tables-open : {n : ℕ} → n ≡ zeroEnd (bytesOf file (y .symbols .strings))
-      → OpenTables file (record { format = y .format; nscns = y .count; start = y .symbols .start; count = y .symbols .count; strings = y .symbols .strings; ends = n })
-  tables-open z = record { accepted = k; tables = rw (z, e) refl }
+  pub few-sections : y .count ≤ sectionLimit
+  few-sections = rw e (opened-inside file k .few)
+
+  pub tables-open : {n : ℕ} {d : DebugSection} → n ≡ zeroEnd (bytesOf file (y .symbols .strings)) → d ≡ debugOf y
+      → OpenTables file (record { format = y .format; nscns = y .count; start = y .symbols .start; count = y .symbols .count; strings = y .symbols .strings; ends = n; debug = d })
+  tables-open z q = record { accepted = k; tables = rw (z, q, e) refl }

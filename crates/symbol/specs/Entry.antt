@@ -12,10 +12,11 @@ use Rattle.format.specs.Range.{bytesOf}
 use Rattle.refusal.specs.declared.Verdict.the-variants.{Accepted}
 use Rattle.header.specs.declared.Summary.{Summary}
 use Rattle.header.specs.Open.{openOf}
+use Rattle.debug_section.specs.Debug.{debugOf}
 use Rattle.symbol.specs.declared.Tables.{Tables}
 use Rattle.symbol.specs.declared.SymbolEntry.{SymbolEntry}
 
--- all that entries and their names are judged by: where symbols and strings lie, and where the last string ends
+-- all that entries and their names are judged by: where symbols and strings lie, where the last string ends, and the debug section
 abbrev pub tablesOf : List ℕ → Summary → Tables
 tablesOf file y =
     record {
@@ -25,6 +26,7 @@ tablesOf file y =
       count = y .symbols .count;
       strings = y .symbols .strings;
       ends = zeroEnd (bytesOf file (y .symbols .strings));
+      debug = debugOf y;
     }
 
 -- as opening finds them

@@ -1,5 +1,5 @@
 -- Where the name of an entry lies: a part of the file, or NAME.
-use Prim.Native.Nat.{ℕ, _+_, _-_}
+use Prim.Native.Nat.{ℕ, _+_, _-_, _%_}
 use mathlib.Core.Bool.{Bool, true, cond, _||_, _&&_}
 use mathlib.Core.List.{List}
 use lib.Dec.{eqb, ltb, leb}
@@ -15,6 +15,7 @@ use Rattle.format.specs.Range.{range, bytesOf, textOf}
 use Rattle.refusal.specs.declared.Refusal.the-variants.{Name}
 use Rattle.refusal.specs.declared.RangeAnswer.{RangeAnswer}
 use Rattle.refusal.specs.declared.RangeAnswer.the-variants.{Found, Refused}
+use Rattle.debug_section.specs.Debug.{hasString, stringRange}
 use Rattle.symbol.specs.declared.Tables.{Tables}
 use Rattle.symbol.specs.declared.SymbolEntry.{SymbolEntry}
 use Rattle.symbol.specs.Entry.{entryStart}
@@ -28,14 +29,24 @@ stringRoom file strings o i =
     (cond (leb (strings .length - o) (firstZero (drop o (bytesOf file strings)))) (Refused (Name i))
     (Found (range (strings .start .0 + o) (strings .length - o))))
 
--- a short name: the entry's own 8. Offset 0: none, at the start of the file
-unfoldable pub roomBy : List ℕ → Tables → SymbolIndex → NameField → RangeAnswer
-roomBy file t i Short = Found (range (entryStart t (i .0) + shortName .offset) (bytesIn (shortName .width)))
-roomBy file t i (Offset o) = cond (eqb o 0) (Found (range 0 0)) (stringRoom file (t .strings) o i)
+-- a string of the debug section: as many as the length before it says
+unfoldable pub debugRoom : List ℕ → Tables → ℕ → SymbolIndex → RangeAnswer
+debugRoom file t o i = cond (hasString (t .format) file (t .debug) o) (Found (stringRange (t .format) file (t .debug) o)) (Refused (Name i))
+
+-- a debug class: bit 80 hex
+unfoldable pub isDebugClass : ℕ → Bool
+isDebugClass sclass = leb 0x80 (sclass % 0x100)
+
+-- a short name: the entry's own 8. Offset 0: none, at the start of the file. Else by the class
+unfoldable pub roomBy : List ℕ → Tables → SymbolIndex → ℕ → NameField → RangeAnswer
+roomBy file t i sclass Short = Found (range (entryStart t (i .0) + shortName .offset) (bytesIn (shortName .width)))
+roomBy file t i sclass (Offset o) =
+    cond (eqb o 0) (Found (range 0 0))
+    (cond (isDebugClass sclass) (debugRoom file t o i) (stringRoom file (t .strings) o i))
 
 -- of the entry e at index i
 abbrev pub roomIn : List ℕ → Tables → SymbolIndex → SymbolEntry → RangeAnswer
-roomIn file t i e = roomBy file t i (e .name)
+roomIn file t i e = roomBy file t i (e .sclass) (e .name)
 
 -- ---- the name: those bytes up to their first zero, or all of them
 
@@ -47,6 +58,7 @@ abbrev pub nameIn : List ℕ → Tables → SymbolIndex → SymbolEntry → Rang
 nameIn file t i e = nameFrom file (roomIn file t i e)
 
 -- whether a name lies somewhere, by the end of the strings: serves the contract of `has_name` alone
-unfoldable pub hasName : ℕ → NameField → Bool
-hasName ends Short = true
-hasName ends (Offset o) = eqb o 0 || (leb 4 o && ltb o ends)
+unfoldable pub hasName : List ℕ → Tables → ℕ → NameField → Bool
+hasName file t sclass Short = true
+hasName file t sclass (Offset o) =
+    eqb o 0 || cond (isDebugClass sclass) (hasString (t .format) file (t .debug) o) (leb 4 o && ltb o (t .ends))

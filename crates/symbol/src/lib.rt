@@ -1,15 +1,18 @@
 // Symbol table entries, each read and judged with its name.
 ghost use mathlib.Core.Path.{_≡_};
-ghost use Prim.Native.Nat.{_+_, _≤_, _<_};
+ghost use Prim.Native.Nat.{_+_, _-_, _≤_, _<_};
 ghost use lib.ListN.{length};
 ghost use Rattle.word.specs.Zero.{zeroEnd};
 ghost use Rattle.format.specs.Layout.{symbolLength};
-ghost use Rattle.format.specs.Range.{bytesOf};
+ghost use Rattle.format.specs.Limit.{fileLimit};
+ghost use Rattle.format.specs.Range.{range, bytesOf};
 ghost use Rattle.refusal.specs.Order.{firstRefusal};
 ghost use Rattle.header.specs.Open.{openOf};
+ghost use Rattle.debug_section.specs.Debug.{DebugInside};
 ghost use Rattle.symbol.specs.Entry.{OpenTables, entryAt, entryOf};
-ghost use Rattle.symbol.specs.Name.{roomIn, hasName};
+ghost use Rattle.symbol.specs.Name.{isDebugClass, roomIn, hasName};
 ghost use Rattle.symbol.specs.Symbol.{isSection, nameCheck, symbolChecks, sectionIn, symbolOf, symbolIn};
+use debug_section::DebugSection;
 use format::FileOffset;
 use format::FileRange;
 use format::Format;
@@ -22,9 +25,9 @@ use refusal::RangeAnswer;
 use refusal::Refusal;
 use refusal::Verdict;
 
-// All that entries and their names are judged by: where symbols and strings lie in an opened file, and one past the last zero
-// of the strings. Exactly the offsets below `ends` have a zero at or after them, so a walk judges each name by one comparison
-// and stays linear in the file.
+// All that entries and their names are judged by: where symbols and strings lie in an opened file, one past the last zero of
+// the strings, and the debug section. Exactly the offsets below `ends` have a zero at or after them, so a walk judges each name
+// by comparisons and stays linear in the file.
 pub struct Tables {
     pub format: Format,
     pub nscns: u64,
@@ -32,6 +35,7 @@ pub struct Tables {
     pub count: u64,
     pub strings: FileRange,
     pub ends: u64,
+    pub debug: DebugSection,
 }
 
 // What the 18 bytes of an entry hold.
@@ -91,6 +95,7 @@ pub fn tables_of(file: &[u8], y: Summary) -> Tables
         count: symbols.count,
         strings,
         ends: names_end(file, strings),
+        debug: debug_section::find_debug(y),
     }
 }
 
@@ -135,9 +140,18 @@ pub fn is_section(nscns: u64, scnum: u64) -> bool
     0xFFFE <= scnum
 }
 
-// Whether a name lies somewhere: short, empty, or at an offset from 4 on with a zero at or after it.
-pub fn has_name(ends: u64, name: NameField) -> bool
-    ensures { λ r. ⌜ r ≡ hasName ends name ⌝ }
+// Whether the storage class has bit 80 hex.
+fn is_debug_class(sclass: u64) -> bool
+    ensures { λ r. ⌜ r ≡ isDebugClass sclass ⌝ }
+{
+    0x80 <= sclass % 0x100
+}
+
+// Whether a name lies somewhere: short, empty, a string of the debug section, or at an offset from 4 on with a zero at or
+// after it.
+pub fn has_name(file: &[u8], t: Tables, sclass: u64, name: NameField) -> bool
+    requires { ⌜ DebugInside (length (now file)) (t .debug) ⌝ }
+    ensures { λ r. ⌜ r ≡ hasName (now (file .entry)) t sclass name ⌝ }
 {
     match name {
         NameField::Short => true,
@@ -145,11 +159,29 @@ pub fn has_name(ends: u64, name: NameField) -> bool
             if o == 0 {
                 return true;
             }
+            if is_debug_class(sclass) {
+                let f = t.format;
+                let debug = t.debug;
+                return debug_section::has_string(file, f, debug, o);
+            }
             if o < 4 {
                 return false;
             }
-            o < ends
+            o < t.ends
         }
+    }
+}
+
+// All from the offset `o` of a string table to its end.
+fn string_room(strings: FileRange, o: u64) -> FileRange
+    requires { ⌜ (o ≤ strings .length) × (strings .start .0 + strings .length ≤ fileLimit) ⌝ }
+    ensures { λ r. ⌜ r ≡ range (strings .start .0 + o) (strings .length - o) ⌝ }
+{
+    let from = strings.start;
+    let at = from.0 + o;
+    FileRange {
+        start: FileOffset(at),
+        length: strings.length - o,
     }
 }
 
@@ -179,14 +211,13 @@ pub fn name_room(file: &[u8], t: Tables, i: SymbolIndex, e: SymbolEntry) -> File
                     length: 0,
                 };
             }
-            let strings = t.strings;
-            let from = strings.start;
-            let at = from.0 + o;
-            let room = strings.length - o;
-            FileRange {
-                start: FileOffset(at),
-                length: room,
+            if is_debug_class(e.sclass) {
+                let f = t.format;
+                let debug = t.debug;
+                return debug_section::string_range(file, f, debug, o);
             }
+            let strings = t.strings;
+            string_room(strings, o)
         }
     }
 }
@@ -203,7 +234,7 @@ pub fn check_entry(file: &[u8], t: Tables, i: SymbolIndex, e: SymbolEntry) -> Ve
         return Verdict::Refused(Refusal::Scnum(i));
     }
     let name = e.name;
-    if !has_name(t.ends, name) {
+    if !has_name(file, t, e.sclass, name) {
         return Verdict::Refused(Refusal::Name(i));
     }
     Verdict::Accepted

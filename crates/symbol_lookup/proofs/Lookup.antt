@@ -69,7 +69,7 @@ module _ (file : List ℕ) (i : SymbolIndex) where
   name-in (Found s) e =
       let k = found-in e in
       let t = tablesAt file in
-      name-within-room file (roomIn file t i (entryOf file t i)) (room-in-file file t i _ (k .0) (symbol-known file t i (k .1)))
+      name-within-room file (roomIn file t i (entryOf file t i)) (room-in-file file t i _ _ (k .0) (symbol-known file t i (k .1)))
 
   pub name-within : Within (length file) (symbolNameAt file i)
   unfolding symbolNameAt

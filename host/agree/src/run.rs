@@ -73,6 +73,9 @@ impl Run {
         for refusal in &agreed.refusals {
             self.table.count(&case.file, op, refusal);
         }
+        if agreed.refusals.is_empty() {
+            self.table.accept(&case.file, op);
+        }
         if matches!(op, Op::Calls { .. }) {
             self.lists += 1;
             self.calls += agreed.calls;

@@ -3,6 +3,7 @@
 
 mod changed;
 pub mod damage;
+pub mod debug;
 mod edges;
 pub mod make;
 mod operations;
@@ -134,15 +135,16 @@ pub struct Case {
     pub expected: Option<Expected>,
 }
 
-/// The case of a seed. Every eighth is aimed at request 2; what belongs to the
-/// request is drawn by itself, so that the other cases stay as they are.
+/// The case of a seed. Every eighth is aimed at request 2, another eighth at
+/// request 1; what belongs to a request is drawn by itself, so that the other
+/// cases stay as they are.
 pub fn case(seed: u64) -> Case {
     let rng = &mut Rng::new(seed);
     let later = &mut Rng::new(!seed);
-    let drawn = if seed % 8 == 7 {
-        records_file(later)
-    } else {
-        any_file(rng)
+    let drawn = match seed % 8 {
+        7 => records_file(later),
+        3 => symbols_file(later),
+        _ => any_file(rng),
     };
     let mut ops = operations::some_ops(rng, &drawn.made);
     ops.extend(drawn.more);
@@ -223,13 +225,30 @@ fn any_file(rng: &mut Rng) -> Drawn {
 
 /// A damage of S-records, and an operation without one.
 fn records_file(rng: &mut Rng) -> Drawn {
-    let which = rng.between(damage::base_count() as u64, damage::count() as u64 - 1);
+    let last = damage::records_count() as u64 - 1;
+    let which = rng.between(damage::base_count() as u64, last);
     let (name, hurt) = damage::single(rng, which as usize);
     let more = vec![records::good_op(rng, &hurt.made)];
     Drawn {
         more,
         ..Drawn::aimed(format!("aimed: {name}"), hurt)
     }
+}
+
+/// A damage of debugger names, or an accepted edge of them.
+fn symbols_file(rng: &mut Rng) -> Drawn {
+    if rng.chance(40) {
+        let mut more = Vec::new();
+        let (label, made) = debug::edge(rng, &mut more);
+        return Drawn {
+            more,
+            ..Drawn::plain(&label, made)
+        };
+    }
+    let first = damage::records_count() as u64;
+    let which = rng.between(first, damage::count() as u64 - 1);
+    let (name, hurt) = damage::single(rng, which as usize);
+    Drawn::aimed(format!("aimed: {name}"), hurt)
 }
 
 /// A module or, more rarely, an object.

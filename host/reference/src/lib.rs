@@ -29,7 +29,9 @@ pub use module::{
 pub use opening::{open, section, section_name, Section, Summary};
 pub use records::{read_records, records_length, write_records};
 pub use sheet::{read_sheet, write_sheet};
-pub use symbols::{csect, symbol, symbol_name, walk, walked, Csect, Symbol, Walk};
+pub use symbols::{
+    csect, name_fault, symbol, symbol_name, walk, walked, Csect, NameFault, Symbol, Walk,
+};
 
 /// A refusal: its number and its item, 0 where none is named.
 #[derive(Clone, Copy, Debug, PartialEq, Eq)]

@@ -1,10 +1,13 @@
 //! Which refusals were reached: every number of document 01, and of the requests
 //! in force, with every class of item it can have, in both formats, by group of
-//! operations.
+//! operations; and which edges were accepted, where a request draws a new line.
+
+mod edges;
 
 use crate::generate::Op;
 use crate::opening::{TBSS, TDATA};
 use crate::records::{bad_line, Fault};
+use crate::symbols::{name_fault, NameFault};
 use crate::{module, open, word, Refusal, ROOM};
 use std::collections::BTreeMap;
 
@@ -83,8 +86,18 @@ const fn class(
     }
 }
 
-/// All classes, in the order of the numbers.
+/// All classes, in the order of the numbers; 0 stands for accepted edges.
 pub const CLASSES: &[Class] = &[
+    class(0, "debug name", Both, &[Symbol]),
+    class(0, "debug name of class 80", Both, &[Symbol]),
+    class(0, "debug name up to a zero", Both, &[Symbol]),
+    class(0, "debug name at the start", Both, &[Symbol]),
+    class(0, "debug name to the end", Both, &[Symbol]),
+    class(0, "debug name at the end", Both, &[Symbol]),
+    class(0, "debug: one without raw", Both, &[Symbol]),
+    class(0, "debug class, offset 0", Both, &[Symbol]),
+    class(0, "debug class, short name", Only32, &[Symbol]),
+    class(0, "class 7F, string table", Both, &[Symbol]),
     class(1, "0 under 2 bytes", Neither, OPENING),
     class(1, "0 file header", Both, OPENING),
     class(1, "0 header area", Both, OPENING),
@@ -110,7 +123,11 @@ pub const CLASSES: &[Class] = &[
     class(8, "loader symbol", Both, &[Lookup]),
     class(8, "import id", Both, &[Lookup]),
     class(9, "index", Both, &[Symbol, Csect]),
-    class(10, "index", Both, &[Symbol, Csect]),
+    class(10, "index: string table", Both, &[Symbol, Csect]),
+    class(10, "index: no debug section", Both, &[Symbol, Csect]),
+    class(10, "index: two of them", Both, &[Symbol, Csect]),
+    class(10, "index: debug length", Both, &[Symbol, Csect]),
+    class(10, "index: debug string", Both, &[Symbol, Csect]),
     class(11, "index", Both, &[Symbol, Csect]),
     class(12, "index", Both, &[Csect]),
     class(13, "0", Both, LOADING),
@@ -197,7 +214,8 @@ pub fn item_of(file: &[u8], op: &Op, refusal: &Refusal) -> &'static str {
         4 | 5 => "section",
         6 => address(file, item),
         8 => asked(op),
-        9..=12 => "index",
+        10 => name(file, item),
+        9 | 11 | 12 => "index",
         13 | 15 => ["0", "1", "2", "3", "4", "5"]
             .get(item as usize)
             .copied()
@@ -284,6 +302,18 @@ fn asked(op: &Op) -> &'static str {
         Op::LoaderSymbol(_) | Op::LoaderSymbolName(_) => "loader symbol",
         Op::ImportPath(_) | Op::ImportBase(_) | Op::ImportMember(_) => "import id",
         _ => "?",
+    }
+}
+
+/// NAME of the entry at `index`: what is wrong with its offset.
+fn name(file: &[u8], index: u64) -> &'static str {
+    match name_fault(file, index) {
+        Some(NameFault::Table) => "index: string table",
+        Some(NameFault::NoDebug) => "index: no debug section",
+        Some(NameFault::SeveralDebug) => "index: two of them",
+        Some(NameFault::Length) => "index: debug length",
+        Some(NameFault::String) => "index: debug string",
+        None => "?",
     }
 }
 
@@ -389,8 +419,20 @@ impl Table {
             .or_insert(0) += 1;
     }
 
+    /// Counts the edges that `op` accepted on `file`; for operations that refuse
+    /// nothing.
+    pub fn accept(&mut self, file: &[u8], op: &Op) {
+        for edge in edges::accepted(file, op) {
+            *self
+                .reached
+                .entry((0, edge, bits_of(file), group_of(op)))
+                .or_insert(0) += 1;
+        }
+    }
+
     pub fn refusals(&self) -> u64 {
-        self.reached.values().sum()
+        let refusals = self.reached.iter().filter(|((number, ..), _)| *number != 0);
+        refusals.map(|(_, times)| times).sum()
     }
 
     fn cell(&self, row: Row, group: Group) -> u64 {
@@ -479,7 +521,10 @@ fn title((class, bits): Row) -> String {
     format!(
         "{:>3} {:<8} {:<24}{bits:>4}",
         class.number,
-        word(class.number),
+        match class.number {
+            0 => "accepted",
+            number => word(number),
+        },
         class.item
     )
 }

@@ -1,7 +1,7 @@
-//! Document 01, "Symbols and csects".
+//! Document 01, "Symbols and csects"; debugger names are request 1 of document 02.
 
 use crate::bytes::{by, number};
-use crate::opening::{open, Summary};
+use crate::opening::{open, Section, Summary, DEBUG};
 use crate::{refuse, Refusal, AUX, CSECT, INDEX, NAME, SECTION};
 use std::ops::Range;
 
@@ -79,8 +79,8 @@ fn read_entry(file: &[u8], summary: &Summary, index: u64) -> Result<Symbol, Refu
         return refuse(SECTION, index);
     }
     let name = match read_name(file, summary, at) {
-        Some(name) => name,
-        None => return refuse(NAME, index),
+        Ok(name) => name,
+        Err(_) => return refuse(NAME, index),
     };
     let value = if summary.bits == 32 {
         number(file, at + 8, 4)
@@ -98,26 +98,96 @@ fn read_entry(file: &[u8], summary: &Summary, index: u64) -> Result<Symbol, Refu
     })
 }
 
-/// The name of the entry that starts at `at`; none for a bad offset.
-fn read_name(file: &[u8], summary: &Summary, at: usize) -> Option<Range<usize>> {
+/// Why a name offset is bad.
+#[derive(Clone, Copy, Debug, PartialEq, Eq)]
+pub enum NameFault {
+    /// No such string in the string table.
+    Table,
+    /// No debug section has raw data.
+    NoDebug,
+    /// Several debug sections have raw data.
+    SeveralDebug,
+    /// The length before the string leaves the debug section.
+    Length,
+    /// The string leaves the debug section.
+    String,
+}
+
+/// What is wrong with the name of the entry at `index`; none where it is good or
+/// there is no such entry.
+pub fn name_fault(file: &[u8], index: u64) -> Option<NameFault> {
+    let summary = open(file).ok()?;
+    if index >= summary.symbols {
+        return None;
+    }
+    read_name(file, &summary, place(&summary, index)).err()
+}
+
+/// The name of the entry that starts at `at`.
+fn read_name(file: &[u8], summary: &Summary, at: usize) -> Result<Range<usize>, NameFault> {
     if summary.bits == 32 && number(file, at, 4) != 0 {
-        return Some(short_name(file, at));
+        return Ok(short_name(file, at));
     }
     let offset = number(file, at + by(summary.bits, 4, 8), 4) as usize;
     if offset == 0 {
         // The empty name; 01 leaves its place open.
-        return Some(at..at);
+        return Ok(at..at);
     }
+    let class = number(file, at + 16, 1);
+    if is_debug_class(class) {
+        debug_name(file, summary, offset)
+    } else {
+        table_name(file, summary, offset).ok_or(NameFault::Table)
+    }
+}
+
+/// Storage classes whose name offsets lead into the debug section.
+pub fn is_debug_class(class: u64) -> bool {
+    class & 0x80 != 0
+}
+
+/// The string at `offset` of the string table, up to its zero.
+fn table_name(file: &[u8], summary: &Summary, offset: usize) -> Option<Range<usize>> {
     if offset < 4 || offset >= summary.strings.len() {
         return None;
     }
     let start = summary.strings.start + offset;
-    for end in start..summary.strings.end {
-        if file[end] == 0 {
-            return Some(start..end);
-        }
+    let length = file[start..summary.strings.end]
+        .iter()
+        .position(|&byte| byte == 0)?;
+    Some(start..start + length)
+}
+
+/// The string at `offset` of the debug section; its length lies before it. It
+/// must lie in the section whole, also where a zero ends the name sooner.
+fn debug_name(file: &[u8], summary: &Summary, offset: usize) -> Result<Range<usize>, NameFault> {
+    let section = debug_section(summary)?;
+    let prefix = by(summary.bits, 2, 4);
+    if offset < prefix || offset > section.len() {
+        return Err(NameFault::Length);
     }
-    None
+    let start = section.start + offset;
+    let length = number(file, start - prefix, prefix) as usize;
+    if length > section.end - start {
+        return Err(NameFault::String);
+    }
+    let string = &file[start..start + length];
+    let zero = string.iter().position(|&byte| byte == 0);
+    Ok(start..start + zero.unwrap_or(length))
+}
+
+/// The one debug section with raw data; others without any do no harm.
+fn debug_section(summary: &Summary) -> Result<Range<usize>, NameFault> {
+    let raw = |section: &Section| match section.flags {
+        DEBUG => section.raw.clone(),
+        _ => None,
+    };
+    let mut all = summary.sections.iter().filter_map(raw);
+    match (all.next(), all.next()) {
+        (Some(only), None) => Ok(only),
+        (None, _) => Err(NameFault::NoDebug),
+        _ => Err(NameFault::SeveralDebug),
+    }
 }
 
 /// The 8 bytes at `at` up to the first zero.

@@ -1,6 +1,7 @@
 use borrow.Author.Tests.{not-true, not-false}
 use Rattle.word.proofs.Test.{found}
 use Rattle.symbol.proofs.Checks.{check-aux, check-scnum, check-name, check-none}
+use Rattle.symbol.proofs.Opened.{tables-inside}
 use borrow.Author.Needs.{needs}
 use Rattle.symbol.proofs.check_entry.Statement.{statement}
 use Rattle.symbol.proofs.check_entry.Tie as tie
@@ -21,7 +22,7 @@ returns-2 : tie.Need-returns-2
 returns-2 c = check-scnum _ _ _ _ (found (c .before .before .before .ends-past .ensures) (c .before .before .if1 .left)) (found (c .before .is-section .ensures) (not-true _ (c .if2 .taken)))
 
 has-name-requires : tie.Need-has-name-requires
-has-name-requires c κs = search needs
+has-name-requires c κs = let s = c .before .before .before .before .before .before in tables-inside (s .args .file .now) (s .args .t) (s .pre .0) .debug
 
 returns-3 : tie.Need-returns-3
 returns-3 c = check-name _ _ _ _ (found (c .before .before .before .before .before .ends-past .ensures) (c .before .before .before .before .if1 .left)) (found (c .before .before .before .is-section .ensures) (not-false _ (c .before .before .if2 .left))) (c .before .before .before .before .before .before .before .before .pre .0) (found (c .before .has-name .ensures) (not-true _ (c .if3 .taken)))

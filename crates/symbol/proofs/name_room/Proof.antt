@@ -1,11 +1,12 @@
 use Rattle.word.specs.declared.Field.{Field}
-use borrow.Author.Tests.{eq-eqb, ne-eqb}
+use borrow.Author.Tests.{eq-eqb}
 use mathlib.Core.Path.{refl, ap}
 use native.Mathlib.Omega.{arith}
-use Rattle.symbol.proofs.Opened.{tables-inside, entry-whole}
+use Rattle.word.proofs.Test.{found}
 use Rattle.symbol.specs.Name.{roomBy}
 use Rattle.symbol.specs.Symbol.{nameCheck}
-use Rattle.symbol.proofs.Names.{offset-below, offset-room}
+use Rattle.symbol.proofs.Opened.{tables-inside, entry-whole}
+use Rattle.symbol.proofs.Names.{debug-named, debug-room, offset-below, offset-room}
 use borrow.Author.Needs.{needs}
 use Rattle.symbol.proofs.name_room.Statement.{statement}
 use Rattle.symbol.proofs.name_room.Tie as tie
@@ -35,21 +36,28 @@ returns : tie.Need-returns
 unfolding roomBy
 returns c = rw (c .before .before .name .given .1, eq-eqb _ 0 (c .if1 .taken)) refl
 
-add-at : tie.Need-add-at
-unfolding nameCheck
-add-at c = let s = c .before .before .before .before .before .before .before .before in let a = s .args in let h = tables-inside (a .file .now) (a .t) (s .pre .0) in omega (arith, h .small, h .strings, offset-below (a .file .now) (a .t) (a .i) _ (rw (c .before .before .before .before .before .name .given .1) at (s .pre .2)) (c .before .before .before .if1 .left))
+is-debug-class-requires : tie.Need-is-debug-class-requires
+is-debug-class-requires c κs = search needs
 
-sub-room : tie.Need-sub-room
+string-range-requires : tie.Need-string-range-requires
 unfolding nameCheck
-sub-room c = let s = c .before .before .before .before .before .before .before .before .before in let a = s .args in omega (arith, offset-below (a .file .now) (a .t) (a .i) _ (rw (c .before .before .before .before .before .before .name .given .1) at (s .pre .2)) (c .before .before .before .before .if1 .left))
+string-range-requires c κs = let s = c .before .before .before .before .before .before .before in let a = s .args in let q = c .before .before .before .before .name .given .1 in (tables-inside (a .file .now) (a .t) (s .pre .0) .debug, debug-named (a .file .now) (a .t) (a .i) (a .e .sclass) _ (rw q at (s .pre .2)) (c .before .before .if1 .left) (found (c .before .is-debug-class .ensures) (c .if2 .taken)))
 
 returns-2 : tie.Need-returns-2
-unfolding roomBy
-returns-2 c = rw (c .before .before .before .before .before .enum-told .given .1, c .bytes-in .ensures, c .before .before .before .before .short-name .ensures) refl
+unfolding nameCheck
+returns-2 c = let s = c .before .before .before .before .before .before .before .before in let a = s .args in let q = c .before .before .before .before .before .name .given .1 in rw q (debug-room (a .file .now) (a .t) (a .i) (a .e .sclass) _ (rw q at (s .pre .2)) (c .before .before .before .if1 .left) (found (c .before .before .is-debug-class .ensures) (c .before .if2 .taken)) (c .string-range .ensures))
+
+string-room-requires : tie.Need-string-room-requires
+unfolding nameCheck
+string-room-requires c κs = let s = c .before .before .before .before .before .before .before .before in let a = s .args in let q = c .before .before .before .before .before .name .given .1 in let h = tables-inside (a .file .now) (a .t) (s .pre .0) in let k = offset-below (a .file .now) (a .t) (a .i) (a .e .sclass) _ (rw q at (s .pre .2)) (c .before .before .before .if1 .left) (found (c .before .before .is-debug-class .ensures) (c .before .if2 .left)) in (omega (arith, k), omega (arith, h .small, h .strings))
 
 returns-3 : tie.Need-returns-3
+unfolding roomBy
+returns-3 c = rw (c .before .before .before .before .before .enum-told .given .1, c .bytes-in .ensures, c .before .before .before .before .short-name .ensures) refl
+
+returns-4 : tie.Need-returns-4
 unfolding nameCheck
-returns-3 c = let s = c .before .before .before .before .before .before .before .before .before in let a = s .args in let n = c .before .before .before .before .before .before .name .given .1 in rw n (offset-room (a .file .now) (a .t) (a .i) _ (rw n at (s .pre .2)) (c .before .before .before .before .if1 .left))
+returns-4 c = let s = c .before .before .before .before .before .before .before .before .before in let a = s .args in let q = c .before .before .before .before .before .before .name .given .1 in rw q (offset-room (a .file .now) (a .t) (a .i) (a .e .sclass) _ (rw q at (s .pre .2)) (c .before .before .before .before .if1 .left) (found (c .before .before .before .is-debug-class .ensures) (c .before .before .if2 .left)) (c .string-room .ensures))
 
 pub name-room-spec : {M : Type 1} → statement M
 name-room-spec =
@@ -63,7 +71,9 @@ name-room-spec =
     bytes-in-requires
     enum-known-name
     returns
-    add-at
-    sub-room
+    is-debug-class-requires
+    string-range-requires
     returns-2
-    returns-3)
+    string-room-requires
+    returns-3
+    returns-4)

@@ -1,12 +1,15 @@
-use Rattle.symbol.proofs.Opened.{strings-inside, tables-open}
+use Rattle.symbol.proofs.Opened.{strings-inside, few-sections, tables-open}
 use Rattle.symbol.proofs.tables_of.Statement.{statement}
 use Rattle.symbol.proofs.tables_of.Tie as tie
 
 names-end-requires : tie.Need-names-end-requires
-names-end-requires c κs = strings-inside (c .before .before .before .before .args .file .now) (c .before .before .before .before .pre .0) (c .before .before .before .before .pre .1)
+names-end-requires c κs = let s = c .before .before .before .before in strings-inside (s .args .file .now) (s .pre .0) (s .pre .1)
+
+find-debug-requires : tie.Need-find-debug-requires
+find-debug-requires c κs = let s = c .before .before .before .before .before in few-sections (s .args .file .now) (s .pre .0) (s .pre .1)
 
 returns : tie.Need-returns
-returns c = tables-open (c .before .before .before .before .before .args .file .now) (c .before .before .before .before .before .pre .0) (c .before .before .before .before .before .pre .1) (c .names-end .ensures)
+returns c = let s = c .before .before .before .before .before .before in tables-open (s .args .file .now) (s .pre .0) (s .pre .1) (c .before .names-end .ensures) (c .find-debug .ensures)
 
 pub tables-of-spec : {M : Type 1} → statement M
-tables-of-spec = tie.close (tie.spec names-end-requires returns)
+tables-of-spec = tie.close (tie.spec names-end-requires find-debug-requires returns)

@@ -24,7 +24,7 @@ name-room-requires : tie.Need-name-room-requires
 name-room-requires c κs = let s = c .before .before .before .before .before in let a = s .args in let k = found (c .before .before .before .symbol-in .ensures) (c .before .enum-told .given .1) in (s .pre, symbol-known (a .file .now) (a .t) (a .i) k, rw (c .entry-in .ensures) (name-accepted (a .file .now) (a .t) (a .i) k))
 
 text-of-requires : tie.Need-text-of-requires
-text-of-requires c κs = let s = c .before .before .before .before .before .before in let a = s .args in let k = found (c .before .before .before .before .symbol-in .ensures) (c .before .before .enum-told .given .1) in found-within (c .name-room .ensures) (room-in-file (a .file .now) (a .t) (a .i) _ (s .pre) (symbol-known (a .file .now) (a .t) (a .i) k))
+text-of-requires c κs = let s = c .before .before .before .before .before .before in let a = s .args in let k = found (c .before .before .before .before .symbol-in .ensures) (c .before .before .enum-told .given .1) in found-within (c .name-room .ensures) (room-in-file (a .file .now) (a .t) (a .i) _ _ (s .pre) (symbol-known (a .file .now) (a .t) (a .i) k))
 
 returns : tie.Need-returns
 unfolding nameBehind

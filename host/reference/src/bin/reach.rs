@@ -57,6 +57,9 @@ impl Run {
         for refusal in &answer.refusals {
             self.table.count(&case.file, op, refusal);
         }
+        if answer.refusals.is_empty() {
+            self.table.accept(&case.file, op);
+        }
         if let Some(expected) = case.expected.as_ref().filter(|expected| expected.op == i) {
             self.aimed += 1;
             if answer.refusals.first() != Some(&expected.refusal) {

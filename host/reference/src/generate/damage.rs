@@ -4,17 +4,17 @@
 //! checks; a step's `stage` is its place in that order, so that of two damages
 //! in one file the one with the lower stage must be given. `ROWS` make whole
 //! cases: symbols, csects, look-ups, plans, buffers and sheets. Those of S-records
-//! are in `records`.
+//! are in `records`, those of debugger names in `debug`.
 
 use super::make::{self, top, Aux, Field, Head, Made, Part, Wish};
 use super::plans::{buffers, fitting_plan, past_end, reveal_module, reveal_open};
 use super::rng::Rng;
-use super::{records, Op};
+use super::{debug, records, Op};
 use crate::bytes::put;
 use crate::opening::{
     BSS, DATA, DELETED, DWARF, INFO, KINDS, LOADER as LOADER_KIND, OVRFLO, TBSS, TDATA, TEXT,
 };
-use crate::symbols::{CM, ER, LD, SD};
+use crate::symbols::{is_debug_class, CM, ER, LD, SD};
 use crate::*;
 
 pub struct Step {
@@ -1108,6 +1108,7 @@ pub static ROWS: &[Row] = &[
             let mut made = rich(rng);
             let index = rng.pick(&made.symbols).index;
             let end = made.strings_at + made.strings_length;
+            below_80(&mut made, index);
             let tail = rng.between(1, 3).min(made.strings_length as u64 - 4) as usize;
             for at in end - tail..end {
                 made.bytes[at] = b'x';
@@ -1130,6 +1131,7 @@ pub static ROWS: &[Row] = &[
             let mut made = rich(rng);
             let index = rng.pick(&made.symbols).index;
             let offset = rng.pick(&[1, 4, 5, 0xFFFF_FFFF]);
+            below_80(&mut made, index);
             made.set_name_offset(index, offset);
             if rng.chance(50) {
                 put(&mut made.bytes, made.strings_at, 4, rng.pick(&[0, 4]));
@@ -1150,13 +1152,12 @@ pub static ROWS: &[Row] = &[
         make: |rng| {
             let mut made = rich(rng);
             let index = csect_where(&made, rng, None)?;
-            let at = made.symbol_at(index) + 16;
-            put(
-                &mut made.bytes,
-                at,
-                1,
-                rng.pick(&[0, 1, 3, 106, 108, 110, 112, 130, 255]),
-            );
+            let class = rng.pick(&[0, 1, 3, 106, 108, 110, 112, 130, 255]);
+            made.set_class(index, class);
+            if is_debug_class(class) {
+                // Its name would be looked for elsewhere.
+                made.set_name_offset(index, 0);
+            }
             hurt(made, Op::Csect(index), CSECT, index)
         },
     },
@@ -1486,14 +1487,19 @@ pub fn base_count() -> usize {
     STEPS.len() + ROWS.len()
 }
 
-/// How many damages there are in all, those of S-records last.
-pub fn count() -> usize {
+/// How many damages there are with those of S-records.
+pub fn records_count() -> usize {
     base_count() + records::ROWS.len()
 }
 
-/// The rows in their order, those of S-records last.
+/// How many damages there are in all.
+pub fn count() -> usize {
+    records_count() + debug::ROWS.len()
+}
+
+/// The rows in their order: document 01, then the requests.
 pub fn rows() -> impl Iterator<Item = &'static Row> {
-    ROWS.iter().chain(records::ROWS)
+    ROWS.iter().chain(records::ROWS).chain(debug::ROWS)
 }
 
 /// The names of all damages.
@@ -1637,7 +1643,7 @@ fn raw_end(made: &Made) -> usize {
 }
 
 /// A section that isn't text, data, bss or loader.
-fn extra_section(made: &Made, rng: &mut Rng) -> Option<u64> {
+pub(super) fn extra_section(made: &Made, rng: &mut Rng) -> Option<u64> {
     section_where(made, rng, |kind| {
         kind != TEXT && kind != DATA && kind != BSS && kind != LOADER_KIND
     })
@@ -1725,6 +1731,7 @@ fn hurt_symbol(rng: &mut Rng, number: u64) -> Option<Hurt> {
     let name = number == NAME || rng.chance(30);
     let section = number == SECTION || (number == AUX && rng.chance(30));
     if name {
+        below_80(&mut made, index);
         let length = made.strings_length as u64;
         let offset = rng.pick(&[1, 2, 3, length, length + 1, 0x8000_0004, 0xFFFF_FFFF]);
         made.set_name_offset(index, offset);
@@ -1747,6 +1754,12 @@ fn hurt_symbol(rng: &mut Rng, number: u64) -> Option<Hurt> {
     }
     let op = rng.pick(&[Op::Symbol(index), Op::SymbolName(index), Op::Csect(index)]);
     hurt(made, op, number, index)
+}
+
+/// Takes bit 80 off the entry's class: its name offset leads into the string table.
+fn below_80(made: &mut Made, index: u64) {
+    let class = made.bytes[made.symbol_at(index) + 16];
+    made.set_class(index, u64::from(class & 0x7F));
 }
 
 fn csect_where(made: &Made, rng: &mut Rng, kind: Option<u64>) -> Option<u64> {

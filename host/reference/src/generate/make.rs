@@ -2,6 +2,7 @@
 
 mod assemble;
 mod aux_header;
+mod debug;
 mod layout;
 mod loader_section;
 mod loader_symbols;
@@ -12,6 +13,7 @@ mod sections;
 mod symbol_table;
 
 pub use crate::bytes::top;
+pub use debug::DEBUG_CLASSES;
 pub use layout::fitting_address;
 pub use places::{
     aux_field, head_field, Aux, Field, Head, Made, MadeEntry, MadeLoaderSymbol, MadeSymbol, Part,
@@ -21,6 +23,7 @@ use super::rng::Rng;
 use crate::bytes::by;
 use assemble::assemble;
 use aux_header::aux_header;
+use debug::debug_section;
 use layout::Layout;
 use loader_section::loader_section;
 use sections::{module_kinds, module_pieces, object_pieces, Numbers};
@@ -53,6 +56,8 @@ pub struct Wish {
     pub kinds: Vec<u64>,
     /// No section of this kind.
     pub without: Option<u64>,
+    /// Just one debug section with raw data, where there is room for one.
+    pub debug: bool,
 }
 
 /// A valid module.
@@ -62,14 +67,16 @@ pub fn module(rng: &mut Rng, wish: &Wish) -> Made {
     let kinds = module_kinds(rng, wish);
     let numbers = Numbers::of(&kinds);
     let loader = loader_section(rng, bits, wish, &numbers, &layout);
-    let pieces = module_pieces(rng, bits, &kinds, &layout, &loader.bytes);
+    let mut pieces = module_pieces(rng, bits, &kinds, &layout, &loader.bytes);
     let aux = aux_header(rng, bits, wish, &numbers, &layout);
-    let symbols = if wish.rich || rng.chance(60) {
+    let mut symbols = if wish.rich || rng.chance(60) {
         Some(symbol_table(rng, bits, kinds.len() as u64, wish))
     } else {
         None
     };
-    let mut made = assemble(rng, bits, aux, pieces, symbols, wish.symbols_last);
+    let side = &mut rng.aside();
+    let debug = debug_section(side, bits, wish, &mut pieces, symbols.as_mut());
+    let mut made = assemble(rng, side, bits, aux, pieces, symbols, wish.symbols_last);
     made.text = numbers.text;
     made.data = numbers.data;
     made.bss = numbers.bss;
@@ -83,6 +90,7 @@ pub fn module(rng: &mut Rng, wish: &Wish) -> Made {
     if made.loader != 0 {
         made.record_loader(loader);
     }
+    made.record_debug(debug);
     made
 }
 
@@ -94,18 +102,22 @@ pub fn object(rng: &mut Rng, wish: &Wish) -> Made {
         None if rng.chance(5) => rng.between(0, 32),
         None => rng.between(0, 7),
     };
-    let pieces = object_pieces(rng, bits, count);
+    let mut pieces = object_pieces(rng, bits, count);
     let opthdr = match wish.opthdr {
         Some(opthdr) => opthdr,
         None => rng.pick(&[0, 0, 0, 4, 28, 28, by(bits, 72, 110), 130]),
     };
     let aux = rng.bytes(opthdr);
-    let symbols = if wish.rich || rng.chance(85) {
+    let mut symbols = if wish.rich || rng.chance(85) {
         Some(symbol_table(rng, bits, count, wish))
     } else {
         None
     };
-    assemble(rng, bits, aux, pieces, symbols, wish.symbols_last)
+    let side = &mut rng.aside();
+    let debug = debug_section(side, bits, wish, &mut pieces, symbols.as_mut());
+    let mut made = assemble(rng, side, bits, aux, pieces, symbols, wish.symbols_last);
+    made.record_debug(debug);
+    made
 }
 
 fn any_bits(rng: &mut Rng, wish: &Wish) -> u64 {

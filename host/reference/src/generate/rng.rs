@@ -11,6 +11,13 @@ impl Rng {
         }
     }
 
+    /// A second source that begins here and leaves this one as it is.
+    pub fn aside(&self) -> Rng {
+        Rng {
+            state: !self.state.rotate_left(32),
+        }
+    }
+
     /// 64 mixed bits.
     pub fn next(&mut self) -> u64 {
         self.state = self.state.wrapping_add(0x9E37_79B9_7F4A_7C15);

@@ -18,7 +18,7 @@ pub fn answer(case: &Json) -> Json {
     }
 }
 
-fn file(case: &Json) -> Vec<u8> {
+pub fn file(case: &Json) -> Vec<u8> {
     let mut file = Vec::new();
     if let Json::Text(_) = case.get("file") {
         file = case.get("file").bytes();

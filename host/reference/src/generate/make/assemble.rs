@@ -4,7 +4,7 @@ use super::junk;
 use super::places::{Made, Part};
 use super::sections::Piece;
 use super::symbol_table::SymbolTable;
-use crate::bytes::put;
+use crate::bytes::{by, put};
 use crate::generate::rng::Rng;
 
 /// What lies after the headers.
@@ -15,21 +15,29 @@ enum Chunk {
     Symbols,
 }
 
-/// Puts headers, raw data and symbols together.
+/// Puts headers, raw data and symbols together. What belongs to an added piece is
+/// drawn aside.
 pub(super) fn assemble(
     rng: &mut Rng,
+    side: &mut Rng,
     bits: u64,
     aux: Vec<u8>,
     mut pieces: Vec<Piece>,
     symbols: Option<SymbolTable>,
     symbols_last: bool,
 ) -> Made {
-    let mut made = headers(rng, bits, &aux, &pieces);
+    let mut made = headers(rng, side, bits, &aux, &pieces);
     // A symbol table without anything after it may only end the file.
     let open_end = matches!(&symbols, Some(table) if table.tail.is_empty());
     let last = open_end || symbols_last;
-    for chunk in chunks(rng, &pieces, symbols.is_some(), last) {
-        made.bytes.extend(junk(rng, 30, 7));
+    let mut order = chunks(rng, &pieces, symbols.is_some(), last);
+    add_chunks(side, &pieces, &mut order, last && symbols.is_some());
+    for chunk in order {
+        let source = match chunk {
+            Chunk::Section(i) if pieces[i].added => &mut *side,
+            _ => &mut *rng,
+        };
+        made.bytes.extend(junk(source, 30, 7));
         match chunk {
             Chunk::Section(i) => place_raw(&mut made, &mut pieces[i]),
             Chunk::Symbols => place_symbols(&mut made, symbols.as_ref()),
@@ -39,7 +47,8 @@ pub(super) fn assemble(
         made.bytes.extend(junk(rng, 30, 40));
     }
     for (i, piece) in pieces.iter().enumerate() {
-        put_section_header(rng, &mut made, i as u64 + 1, piece);
+        let source = if piece.added { &mut *side } else { &mut *rng };
+        put_section_header(source, &mut made, i as u64 + 1, piece);
     }
     put_symbol_count(rng, &mut made, symbols);
     made.record_file_header();
@@ -48,7 +57,7 @@ pub(super) fn assemble(
 
 /// The file header but for the symbols, the auxiliary header, and room for the
 /// section headers; junk in what nobody sets.
-fn headers(rng: &mut Rng, bits: u64, aux: &[u8], pieces: &[Piece]) -> Made {
+fn headers(rng: &mut Rng, side: &mut Rng, bits: u64, aux: &[u8], pieces: &[Piece]) -> Made {
     let mut made = Made {
         bits,
         opthdr: aux.len(),
@@ -56,8 +65,11 @@ fn headers(rng: &mut Rng, bits: u64, aux: &[u8], pieces: &[Piece]) -> Made {
         ..Made::default()
     };
     let end = made.headers_end();
+    let added = pieces.iter().filter(|piece| piece.added).count() * by(bits, 40, 72);
     made.bytes = if rng.chance(50) {
-        rng.bytes(end)
+        let mut junk = rng.bytes(end - added);
+        junk.extend(side.bytes(added));
+        junk
     } else {
         vec![0; end]
     };
@@ -74,7 +86,7 @@ fn headers(rng: &mut Rng, bits: u64, aux: &[u8], pieces: &[Piece]) -> Made {
 fn chunks(rng: &mut Rng, pieces: &[Piece], symbols: bool, symbols_last: bool) -> Vec<Chunk> {
     let mut order: Vec<Chunk> = Vec::new();
     for (i, piece) in pieces.iter().enumerate() {
-        if piece.raw.is_some() {
+        if piece.raw.is_some() && !piece.added {
             order.push(Chunk::Section(i));
         }
     }
@@ -88,6 +100,16 @@ fn chunks(rng: &mut Rng, pieces: &[Piece], symbols: bool, symbols_last: bool) ->
         order.insert(at, Chunk::Symbols);
     }
     order
+}
+
+/// Puts the raw data of added pieces anywhere between the others.
+fn add_chunks(side: &mut Rng, pieces: &[Piece], order: &mut Vec<Chunk>, symbols_last: bool) {
+    for (i, piece) in pieces.iter().enumerate() {
+        if piece.added && piece.raw.is_some() {
+            let places = order.len() as u64 + u64::from(!symbols_last);
+            order.insert(side.below(places) as usize, Chunk::Section(i));
+        }
+    }
 }
 
 /// Adds a piece's raw data, to which its pointer then leads.

@@ -1,5 +1,6 @@
 //! Where the parts of a made file lie.
 
+use super::debug::DebugSection;
 use super::loader_section::LoaderSection;
 use crate::bytes::{by, number, put};
 
@@ -72,6 +73,12 @@ pub struct Made {
     pub ids: u64,
     pub loader_strings_at: usize,
     pub loader_strings_length: usize,
+    /// The one debug section with raw data, 0 for none.
+    pub debug: u64,
+    pub debug_at: usize,
+    pub debug_size: usize,
+    /// Where its strings start, past their lengths.
+    pub debug_names: Vec<u64>,
 }
 
 /// Parts of a section header.
@@ -287,6 +294,25 @@ impl Made {
         self.put(self.name_offset_field(index), offset);
     }
 
+    pub fn set_class(&mut self, index: u64, class: u64) {
+        let at = self.symbol_at(index) + 16;
+        put(&mut self.bytes, at, 1, class);
+    }
+
+    /// How many bytes the length before a debug string has.
+    pub fn debug_prefix(&self) -> usize {
+        by(self.bits, 2, 4)
+    }
+
+    /// The length before the debug string at this offset.
+    pub fn debug_length_field(&self, offset: u64) -> Field {
+        let length = self.debug_prefix();
+        Field {
+            at: self.debug_at + offset as usize - length,
+            length,
+        }
+    }
+
     /// The `i`-th loader symbol, from 0.
     pub fn loader_symbol_at(&self, i: usize) -> usize {
         self.loader_symbols_at + 24 * i
@@ -413,6 +439,23 @@ impl Made {
         }
         self.record_loader_symbols();
         self.record_entries();
+    }
+
+    /// The debug section and the lengths of its strings, once its header is placed.
+    pub(super) fn record_debug(&mut self, section: DebugSection) {
+        if section.number == 0 {
+            return;
+        }
+        self.debug = section.number;
+        self.debug_at = self.get(self.section_field(self.debug, Part::Pointer)) as usize;
+        self.debug_size = self.get(self.section_field(self.debug, Part::Size)) as usize;
+        self.debug_names = section.names;
+        let lengths: Vec<Field> = self
+            .debug_names
+            .iter()
+            .map(|&name| self.debug_length_field(name))
+            .collect();
+        self.fields.extend(lengths);
     }
 
     /// The first loader symbols, and the lengths of their names.

@@ -17,9 +17,24 @@ pub(super) struct Piece {
     pub raw: Option<Vec<u8>>,
     /// The pointer, if it has no raw data.
     pub pointer: u64,
+    /// Added to the others, and so drawn aside.
+    pub added: bool,
 }
 
 impl Piece {
+    /// A section beside those that were drawn.
+    pub(super) fn added(flags: u64) -> Piece {
+        Piece {
+            flags,
+            paddr: 0,
+            vaddr: 0,
+            size: 0,
+            raw: None,
+            pointer: 0,
+            added: true,
+        }
+    }
+
     fn set_address(&mut self, address: u64) {
         self.paddr = address;
         self.vaddr = address;
@@ -160,6 +175,7 @@ fn any_piece(rng: &mut Rng, bits: u64, kind: u64) -> Piece {
         size: 0,
         raw: None,
         pointer: 0,
+        added: false,
     };
     if kind == DWARF {
         let subtype = rng.pick(&[0, 1, 2, 8, 9, 0xFFFF, 0x8000]);

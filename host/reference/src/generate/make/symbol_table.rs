@@ -153,7 +153,13 @@ fn any_symbol(
 }
 
 /// A symbol's entry, without its auxiliaries.
-fn entry(rng: &mut Rng, bits: u64, symbol: &MadeSymbol, sections: u64, offsets: &[u64]) -> Vec<u8> {
+pub(super) fn entry(
+    rng: &mut Rng,
+    bits: u64,
+    symbol: &MadeSymbol,
+    sections: u64,
+    offsets: &[u64],
+) -> Vec<u8> {
     let mut entry = rng.bytes(18);
     let offset = if offsets.is_empty() || rng.chance(10) {
         0
@@ -176,7 +182,12 @@ fn entry(rng: &mut Rng, bits: u64, symbol: &MadeSymbol, sections: u64, offsets: 
 }
 
 /// A symbol's auxiliaries; the last holds its csect.
-fn auxiliaries(rng: &mut Rng, bits: u64, symbol: &MadeSymbol, containers: &[u64]) -> Vec<u8> {
+pub(super) fn auxiliaries(
+    rng: &mut Rng,
+    bits: u64,
+    symbol: &MadeSymbol,
+    containers: &[u64],
+) -> Vec<u8> {
     let mut all = Vec::new();
     for number in 1..=symbol.auxiliaries {
         let mut aux = rng.bytes(18);

@@ -1,0 +1,2 @@
+-- What the contracts of `debug_section` cite.
+pub mod Debug

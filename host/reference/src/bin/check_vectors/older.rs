@@ -1,0 +1,34 @@
+//! Cases that were recorded before a request: which of their answers still stand.
+
+use crate::json::Json;
+use reference::bytes::{by, number};
+use reference::symbols::is_debug_class;
+use reference::{open, Summary};
+
+/// Whether no later request changes the answer of this case.
+pub fn stands(case: &Json, file: &[u8]) -> bool {
+    let requests = case.get("requests").numbers();
+    let on_symbols = ["symbol", "walk", "csect"].contains(&case.get("op").text());
+    let summary = match open(file) {
+        Ok(summary) if on_symbols => summary,
+        _ => return true,
+    };
+    requests.contains(&1) || !any_entry(file, &summary, has_debug_name)
+}
+
+/// Whether some entry, auxiliaries read as entries included, is such a one.
+fn any_entry(file: &[u8], summary: &Summary, is_such: fn(&[u8], u64) -> bool) -> bool {
+    if summary.symbols == 0 {
+        return false;
+    }
+    let start = summary.symptr as usize;
+    let table = &file[start..start + 18 * summary.symbols as usize];
+    table.chunks(18).any(|entry| is_such(entry, summary.bits))
+}
+
+/// Request 1: the name is by an offset into the debug section.
+fn has_debug_name(entry: &[u8], bits: u64) -> bool {
+    let short = bits == 32 && number(entry, 0, 4) != 0;
+    let offset = number(entry, by(bits, 4, 8), 4);
+    is_debug_class(number(entry, 16, 1)) && !short && offset != 0
+}
