@@ -59,6 +59,7 @@
  *                missing, or is one too many
  *   23 FORM      S-records of an XCOFF64 module                            0
  *   24 CLASH     the text and data images share an address                 0
+ *   30 VISIBILITY  a symbol's type claims a visibility of 5 to 7           index
  *
  * Sections are numbered from 1, symbols from 0, loader symbols from 3 (0, 1 and 2 stand for text, data and bss), import
  * ids from 0. An index may be any number: INDEX is the answer where there is no such thing.
@@ -114,9 +115,11 @@ typedef struct xcoff_symbol_answer {
     uint64_t item;
     uint64_t value;
     int64_t scnum;      /* section; 0 undefined, -1 absolute, -2 debugging */
-    uint64_t type;
+    uint64_t type;      /* all of it, the bits of a visibility too */
     uint64_t sclass;    /* storage class */
     uint64_t numaux;    /* auxiliary entries that follow */
+    uint64_t has_visibility;    /* 1: the type claims a visibility; 0: it is a plain number */
+    uint64_t visibility;        /* 0 none, 1 internal, 2 hidden, 3 protected, 4 exported; 0 where none is claimed */
 } xcoff_symbol_answer;
 
 /* A refusal inside an answer; number 0: none. */
@@ -192,7 +195,9 @@ xcoff_section_answer xcoff_section(const uint8_t *file, size_t length, uint64_t 
 xcoff_name_answer xcoff_section_name(const uint8_t *file, size_t length, uint64_t n);
 
 /* The symbol table entry i, and its name: in the entry, in the string table or, of a storage class with bit 80 hex, in
-   the debug section. The entry after it is at i + 1 + numaux. */
+   the debug section. The entry after it is at i + 1 + numaux. The type has a visibility in its bits 7000 hex where the file
+   is XCOFF32 with auxiliary version 2 (the two bytes at offset 2 of an auxiliary header of 4 bytes or more) and the class is
+   2, 107 or 111. */
 xcoff_symbol_answer xcoff_symbol(const uint8_t *file, size_t length, uint64_t i);
 xcoff_name_answer xcoff_symbol_name(const uint8_t *file, size_t length, uint64_t i);
 
@@ -340,6 +345,8 @@ typedef struct xcoff_symbol_row {
     uint64_t type;
     uint64_t sclass;
     uint64_t numaux;
+    uint64_t has_visibility;    /* as in xcoff_symbol_answer */
+    uint64_t visibility;
     uint64_t name;
     uint64_t room;
     uint64_t csect;         /* 0: the symbol has a csect entry; else the number of the refusal, 12 */
@@ -384,7 +391,7 @@ typedef struct xcoff_import_row {
     uint64_t member_length;
 } xcoff_import_row;
 
-/* 13 numbers for each symbol visited: xcoff_symbol_row. The answer is that of xcoff_walk, or ROOM. */
+/* 15 numbers for each symbol visited: xcoff_symbol_row. The answer is that of xcoff_walk, or ROOM. */
 xcoff_walk_answer xcoff_symbol_table(const uint8_t *file, size_t length, uint64_t *rows, size_t numbers);
 
 /* 9 numbers for each loader symbol, 8 for each relocation entry, 6 for each import id, in the table's order. */

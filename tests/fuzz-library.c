@@ -53,7 +53,7 @@ static void refusal(const void *answer, size_t size)
     uint64_t field;
     size_t i;
     memcpy(&field, answer, sizeof field);
-    PROMISE(field <= 24);
+    PROMISE(field <= 24 || field == 30);
     for (i = 16; field != 0 && i < size; i++)
         PROMISE(((const uint8_t *)answer)[i] == 0);
     note(answer, size);
@@ -191,6 +191,16 @@ static xcoff_open_answer headers(void)
     return o;
 }
 
+/* A visibility is claimed in XCOFF32 with auxiliary version 2, of classes 2, 107 and 111, and is then 0 to 4. */
+static void claimed(xcoff_open_answer o, xcoff_symbol_answer y)
+{
+    int version2 = o.number == 0 && o.bits == 32 && o.opthdr >= 4 && file[22] == 0 && file[23] == 2;
+    int csect = y.sclass == 2 || y.sclass == 107 || y.sclass == 111;
+    PROMISE(y.number != 30 || version2);
+    PROMISE(y.has_visibility == (uint64_t)(y.number == 0 && version2 && csect));
+    PROMISE(y.visibility == (y.has_visibility ? y.type >> 12 & 7 : 0) && y.visibility <= 4);
+}
+
 static void one_symbol(xcoff_open_answer o, uint64_t i, const xcoff_symbol_row *row)
 {
     xcoff_symbol_answer y = xcoff_symbol(file, length, i);
@@ -205,14 +215,16 @@ static void one_symbol(xcoff_open_answer o, uint64_t i, const xcoff_symbol_row *
     else if (i >= o.symbols)
         PROMISE(REFUSED(y, 8, i) && REFUSED(c, 8, i));
     else if (y.number != 0)
-        PROMISE(y.number >= 9 && y.number <= 11 && y.item == i && REFUSED(c, y.number, i));
+        PROMISE(((y.number >= 9 && y.number <= 11) || y.number == 30) && y.item == i && REFUSED(c, y.number, i));
     else
         PROMISE(y.numaux < o.symbols - i && y.scnum >= -2 && y.scnum <= (int64_t)o.sections && (c.number == 0 || REFUSED(c, 12, i)));
+    claimed(o, y);
     if (row != NULL) {
         const uint8_t *zero = memchr(file + row->name, 0, row->room);
         uint64_t name_length = zero == NULL ? row->room : (uint64_t)(zero - (file + row->name));
         PROMISE(y.number == 0 && row->index == i && row->value == y.value && row->scnum == y.scnum && row->type == y.type);
         PROMISE(row->sclass == y.sclass && row->numaux == y.numaux);
+        PROMISE(row->has_visibility == y.has_visibility && row->visibility == y.visibility);
         PROMISE(row->csect == c.number && row->csect_type == c.type && row->align == c.align && row->smclas == c.smclas);
         PROMISE(row->length == c.length && row->name == n.offset && name_length == n.length);
     }
@@ -230,7 +242,7 @@ static void symbols(xcoff_open_answer o)
     PROMISE(w.number == o.number && w.item == o.item);
     for (i = 0; i < 8; i++)
         one_symbol(o, i < 3 ? i : i < 5 ? o.symbols - (i - 3) : any_number(), NULL);
-    n = 13 * w.visited;
+    n = 15 * w.visited;
     numbers = lend(rows_area, 8 * (n + 1));
     fill(numbers, 8 * (n + 1));
     t = xcoff_symbol_table(file, length, numbers, n + 1);

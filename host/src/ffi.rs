@@ -43,6 +43,8 @@ pub struct Symbol {
     pub ntype: u64,
     pub sclass: u64,
     pub numaux: u64,
+    pub has_visibility: u64,
+    pub visibility: u64,
 }
 
 #[repr(C)]

@@ -76,10 +76,23 @@ pub struct Symbol {
     pub value: u64,
     /// The section; 0 undefined, -1 absolute, -2 debugging.
     pub scnum: i64,
+    /// All of it, the bits of a visibility too.
     pub ntype: u64,
     pub sclass: u64,
     /// Auxiliary entries that follow.
     pub numaux: u64,
+    /// None: none is claimed. Types of XCOFF32 with auxiliary version 2 and class 2, 107 or 111 have one.
+    pub visibility: Option<Visibility>,
+}
+
+/// The bits 7000 hex of a type that has a visibility.
+#[derive(Clone, Copy, Debug, PartialEq, Eq)]
+pub enum Visibility {
+    None,
+    Internal,
+    Hidden,
+    Protected,
+    Exported,
 }
 
 /// A walk over the symbol table.
@@ -207,6 +220,7 @@ pub fn symbol(file: &[u8], i: u64) -> Result<Symbol, Refusal> {
         ntype: a.ntype,
         sclass: a.sclass,
         numaux: a.numaux,
+        visibility: visibility(a.has_visibility, a.visibility),
     })
 }
 
@@ -331,6 +345,17 @@ fn kind_of(flag: u64) -> Kind {
         0xFFFF => Kind::Deleted,
         _ => unreachable!("an accepted section has an allowed kind"),
     }
+}
+
+fn visibility(claimed: u64, number: u64) -> Option<Visibility> {
+    (claimed != 0).then(|| match number {
+        0 => Visibility::None,
+        1 => Visibility::Internal,
+        2 => Visibility::Hidden,
+        3 => Visibility::Protected,
+        4 => Visibility::Exported,
+        _ => unreachable!("an accepted symbol claims a visibility of 0 to 4"),
+    })
 }
 
 fn csect_type(kind: u64) -> CsectType {

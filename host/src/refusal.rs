@@ -37,6 +37,7 @@ impl Refusal {
             22 => "RECORD",
             23 => "FORM",
             24 => "CLASH",
+            30 => "VISIBILITY",
             _ => "UNKNOWN",
         }
     }
@@ -70,6 +71,7 @@ impl Refusal {
             22 => format!("line {i} of the record text is not the line that is written there, or is missing or one too many"),
             23 => "S-records are for XCOFF32 modules only".into(),
             24 => "the text and data images share an address".into(),
+            30 => format!("the type of symbol {i} claims a visibility of 5 to 7, which means nothing"),
             _ => "no such number".into(),
         }
     }

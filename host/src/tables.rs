@@ -4,11 +4,12 @@
 //! look-ups judges the file once for each of them.
 
 use crate::{
-    accepted, csect_type, ffi, module, walk, walk_of, Csect, LoaderSymbol, Refusal, Symbol, Walk,
+    accepted, csect_type, ffi, module, visibility, walk, walk_of, Csect, LoaderSymbol, Refusal,
+    Symbol, Walk,
 };
 
 /// Numbers in a row of each table.
-const SYMBOL: usize = 13;
+const SYMBOL: usize = 15;
 const LOADER_SYMBOL: usize = 9;
 const RELOCATION: usize = 8;
 const IMPORT: usize = 6;
@@ -151,14 +152,15 @@ fn symbol_row<'a>(file: &'a [u8], row: &[u64]) -> SymbolRow<'a> {
             ntype: row[3],
             sclass: row[4],
             numaux: row[5],
+            visibility: visibility(row[6], row[7]),
         },
-        csect: (row[8] == 0).then(|| Csect {
-            kind: csect_type(row[9]),
-            align: row[10],
-            smclas: row[11],
-            length: row[12],
+        csect: (row[10] == 0).then(|| Csect {
+            kind: csect_type(row[11]),
+            align: row[12],
+            smclas: row[13],
+            length: row[14],
         }),
-        room: part(file, row[6], row[7]),
+        room: part(file, row[8], row[9]),
     }
 }
 

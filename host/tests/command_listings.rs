@@ -163,8 +163,19 @@ fn symbols_are_what_other_tools_list() {
         if ran.out.is_empty() {
             continue;
         }
-        let (got, expected) = (rows(&ran.out, "index"), file.all("symbol"));
-        assert_eq!(ran.status, Some(0), "{}: {}", file.name, ran.err);
+        let (got, mut expected) = (rows(&ran.out, "index"), file.all("symbol"));
+        // A visibility of 5 to 7 is refused and ends the list.
+        let end = expected.iter().position(|e| is_refused(e));
+        let cause = end.map_or("".into(), |n| {
+            let i = decimal(&expected[n][0]);
+            format!(
+                "xcoff: {}: refused 30 {i}: VISIBILITY, the type of symbol {i} claims a visibility of 5 to 7, which means nothing\n",
+                file.name
+            )
+        });
+        expected.truncate(end.unwrap_or(expected.len()));
+        assert_eq!(ran.status, Some(end.is_some() as i32), "{}", file.name);
+        assert_eq!(ran.err, cause);
         assert_eq!(got.len(), expected.len(), "{}", file.name);
         for (g, e) in got.iter().zip(expected) {
             compared += 1;
@@ -174,6 +185,18 @@ fn symbols_are_what_other_tools_list() {
         }
     }
     assert!(compared >= 1900, "{compared} symbols");
+}
+
+/// A type and, after a slash, the visibility that it claims.
+fn type_and_visibility(fact: &Fact) -> (u64, Option<usize>) {
+    match fact[2].split_once('/') {
+        Some((ntype, number)) => (hex(ntype), Some(number.parse().unwrap())),
+        None => (hex(&fact[2]), None),
+    }
+}
+
+fn is_refused(fact: &Fact) -> bool {
+    type_and_visibility(fact).1 > Some(4)
 }
 
 fn same_symbol(name: &str, got: &[&str], expected: &Fact) {
@@ -186,32 +209,35 @@ fn same_symbol(name: &str, got: &[&str], expected: &Fact) {
         number => number,
     };
     assert_eq!(section, expected[1], "{name}: section of {index}");
-    assert_eq!(hex(got[3]), hex(&expected[2]), "{name}: type of {index}");
-    assert_eq!(class(got[4]), hex(&expected[3]), "{name}: class of {index}");
+    let (ntype, visibility) = type_and_visibility(expected);
+    let words = ["none", "internal", "hidden", "protected", "exported"];
+    assert_eq!(hex(got[3]), ntype, "{name}: type of {index}");
+    assert_eq!(got[4], visibility.map_or("-", |v| words[v]), "{name}");
+    assert_eq!(class(got[5]), hex(&expected[3]), "{name}: class of {index}");
     assert_eq!(
-        got[5],
+        got[6],
         decimal(&expected[4]),
         "{name}: auxiliaries of {index}"
     );
     assert_eq!(hex(got[1]), hex(&expected[5]), "{name}: value of {index}");
-    assert_eq!(got[11], shown(&expected[6]), "{name}: name of {index}");
+    assert_eq!(got[12], shown(&expected[6]), "{name}: name of {index}");
 }
 
 fn same_csect(name: &str, got: &[&str], expected: Option<&Fact>) {
     let Some(expected) = expected else {
-        assert!(matches!(got[6], "-" | "bad"), "{name}: csect of {}", got[0]);
-        assert_eq!(got[7..11], ["-"; 4], "{name}: csect of {}", got[0]);
+        assert!(matches!(got[7], "-" | "bad"), "{name}: csect of {}", got[0]);
+        assert_eq!(got[8..12], ["-"; 4], "{name}: csect of {}", got[0]);
         return;
     };
     let kind = ["ER", "SD", "LD", "CM"][hex(&expected[1]) as usize];
     let (align, length) = (decimal(&expected[2]), decimal(&expected[4]));
-    assert_eq!((got[6], got[7]), (kind, align.as_str()), "{name}");
-    assert_eq!(mapping(got[8]), hex(&expected[3]), "{name}");
+    assert_eq!((got[7], got[8]), (kind, align.as_str()), "{name}");
+    assert_eq!(mapping(got[9]), hex(&expected[3]), "{name}");
     let places = match kind {
         "LD" => ["-", &length],
         _ => [&length, "-"],
     };
-    assert_eq!(got[9..11], places, "{name}: csect of {}", got[0]);
+    assert_eq!(got[10..12], places, "{name}: csect of {}", got[0]);
 }
 
 #[test]
@@ -492,8 +518,18 @@ fn json_is_one_object_a_line() {
         out.lines().nth(1),
         Some(concat!(
             r#"{"table":"symbols","index":2,"value":"ffffffff","section":-2,"type":"0000","#,
-            r#""class":103,"aux":1,"csect":null,"align":null,"mapping":null,"length":null,"#,
-            r#""within":null,"name":".file"}"#
+            r#""visibility":null,"class":103,"aux":1,"csect":null,"align":null,"mapping":null,"#,
+            r#""length":null,"within":null,"name":".file"}"#
+        ))
+    );
+    folder.copy("clang-vis-32.o");
+    let out = folder.done(&["symbols", "clang-vis-32.o", "--json"]);
+    assert_eq!(
+        out.lines().nth(5),
+        Some(concat!(
+            r#"{"table":"symbols","index":11,"value":"00000050","section":2,"type":"3000","#,
+            r#""visibility":3,"class":2,"aux":1,"csect":"SD","align":2,"mapping":5,"#,
+            r#""length":4,"within":null,"name":"prot"}"#
         ))
     );
     for command in ["headers", "module", "relocations"] {
@@ -564,7 +600,7 @@ fn a_long_name_is_cut_with_a_mark() {
     for (length, end) in [(300, "a\\..."), (257, "a\\..."), (256, "a")] {
         folder.write("long", &symbols([4].into_iter(), &vec![b'a'; length]));
         let out = folder.done(&["symbols", "long"]);
-        let name = rows(&out, "index")[0][11];
+        let name = rows(&out, "index")[0][12];
         assert_eq!(name, format!("{}{end}", "a".repeat(255)), "{length}");
         let json = folder.done(&["symbols", "long", "--json"]);
         assert_eq!(json.ends_with("\"name_cut\":true}\n"), length > 256);

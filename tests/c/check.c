@@ -50,10 +50,33 @@ static void symbols(void)
     xcoff_name_answer n = xcoff_symbol_name(file, length, 60);
     EXPECT(y.number == 0 && y.value == 0xffffffff && y.scnum == -2);
     EXPECT(y.type == 0 && y.sclass == 103 && y.numaux == 1);
+    EXPECT(y.has_visibility == 0 && y.visibility == 0);
     EXPECT(is(xcoff_symbol_name(file, length, 26), "resolved_later_at_run_time"));
     EXPECT(refused(n.number, n.item, 8, 60) && n.offset == 0 && n.length == 0);
     EXPECT(w.number == 0 && w.visited == 30 && w.end == 60 && w.cause.number == 0 && w.cause.item == 0);
     EXPECT(c.number == 0 && c.type == 3 && c.align == 3 && c.smclas == 5 && c.length == 64);
+}
+
+/* The file has auxiliary version 2; the type of symbol 28, of class 2, is changed. */
+static void visibilities(void)
+{
+    uint8_t *type = file + ((size_t)file[8] << 24 | (size_t)file[9] << 16 | (size_t)file[10] << 8 | file[11]) + 28 * 18 + 14;
+    xcoff_symbol_answer y = xcoff_symbol(file, length, 28);
+    xcoff_walk_answer w;
+    EXPECT(y.number == 0 && y.sclass == 2 && y.type == 0 && y.has_visibility == 1 && y.visibility == 0);
+    *type = 0xA0;
+    y = xcoff_symbol(file, length, 28);
+    EXPECT(y.number == 0 && y.type == 0xA000 && y.has_visibility == 1 && y.visibility == 2);
+    *type = 0x50;
+    y = xcoff_symbol(file, length, 28);
+    EXPECT(refused(y.number, y.item, 30, 28) && y.type == 0 && y.has_visibility == 0 && y.visibility == 0);
+    w = xcoff_walk(file, length);
+    EXPECT(w.number == 0 && w.end == 28 && refused(w.cause.number, w.cause.item, 30, 28));
+    file[23] = 1;
+    y = xcoff_symbol(file, length, 28);
+    EXPECT(y.number == 0 && y.type == 0x5000 && y.has_visibility == 0 && y.visibility == 0);
+    file[23] = 2;
+    *type = 0;
 }
 
 static void module(void)
@@ -208,9 +231,9 @@ static void symbol_rows(void)
 {
     static xcoff_symbol_row rows[30];
     uint64_t i;
-    xcoff_walk_answer w = xcoff_symbol_table(file, length, (uint64_t *)rows, 30 * 13 - 1);
+    xcoff_walk_answer w = xcoff_symbol_table(file, length, (uint64_t *)rows, 30 * 15 - 1);
     EXPECT(refused(w.number, w.item, 20, 0) && w.visited == 0 && rows[0].sclass == 0);
-    w = xcoff_symbol_table(file, length, (uint64_t *)rows, 30 * 13);
+    w = xcoff_symbol_table(file, length, (uint64_t *)rows, 30 * 15);
     EXPECT(w.number == 0 && w.visited == 30 && w.end == 60 && w.cause.number == 0);
     for (i = 0; i < 30; i++) {
         xcoff_symbol_answer y = xcoff_symbol(file, length, rows[i].index);
@@ -221,6 +244,7 @@ static void symbol_rows(void)
         EXPECT(rows[i].index == (i == 0 ? 0 : rows[i - 1].index + 1 + rows[i - 1].numaux));
         EXPECT(rows[i].value == y.value && rows[i].scnum == y.scnum && rows[i].type == y.type);
         EXPECT(rows[i].sclass == y.sclass && rows[i].numaux == y.numaux);
+        EXPECT(rows[i].has_visibility == y.has_visibility && rows[i].visibility == y.visibility);
         EXPECT(rows[i].csect == c.number && rows[i].csect_type == c.type && rows[i].align == c.align);
         EXPECT(rows[i].smclas == c.smclas && rows[i].length == c.length);
         EXPECT(n.number == 0 && rows[i].name == n.offset && name_length == n.length);
@@ -293,6 +317,7 @@ int main(int argc, char **argv)
     fclose(in);
     headers();
     symbols();
+    visibilities();
     module();
     images();
     records_written();

@@ -45,7 +45,7 @@ def number(text):
 
 # ---- verdicts
 
-def verdict(line):
+def verdict(corpus, line):
     """A line of the independent verdicts: what opening, the walk and the module give."""
     name, _, rest = line.split(None, 2)
     opening = re.match(r"OPEN (\d+) \w+ item (\d+)", rest)
@@ -53,8 +53,14 @@ def verdict(line):
         return name, "open %s %s" % opening.groups()
     bits = rest.split()[0]
     # Where 01 alone reads names in another way, the line says in brackets how far its walk would come.
-    visited = re.search(r"syms (\d+) entries", rest).group(1)
-    head = "%s walk %s 0 0" % (bits, visited)
+    visited, stop = int(re.search(r"syms (\d+) entries", rest).group(1)), (0, 0)
+    # The symbol that stops the walk, where request 9 refuses one: those before it in the listing are visited.
+    refused = re.search(r"req9 (\d+) \w+ item (\d+)", rest)
+    if refused:
+        stop = tuple(int(n) for n in refused.groups())
+        symbols = blocks(parts(listing_of(corpus, name))["llvm-readobj-19 --syms"], "Symbol", "  ")
+        visited = sum(number(fields(block)["Index"]) < stop[1] for block in symbols)
+    head = "%s walk %d %d %d" % (bits, visited, *stop)
     refused = re.match(r"\d+ (\d+) \w+ item (\d+)", rest)
     if refused:
         return name, "%s module %s %s" % ((head,) + refused.groups())
@@ -230,7 +236,18 @@ def check_names(gnu, nm):
         sys.exit("nm differs about the debugging symbols")
 
 
-def symbol_facts(llvm, gnu, sections):
+def version_2(auxiliary, bits):
+    """Whether llvm-readobj lists version 2 in the auxiliary header of an XCOFF32 file."""
+    version = fields(auxiliary).get("Version")
+    return bits == 32 and version is not None and number(version) == 2
+
+
+def type_word(ntype, sclass, version2):
+    """The type and, after a slash, the visibility that it claims."""
+    return "%x/%d" % (ntype, ntype >> 12 & 7) if version2 and sclass in (2, 107, 111) else "%x" % ntype
+
+
+def symbol_facts(llvm, gnu, sections, version2):
     """Symbols in objdump's numbers, with llvm-readobj's names and csects; both must agree."""
     rows = {}
     row = None
@@ -263,7 +280,7 @@ def symbol_facts(llvm, gnu, sections):
             name = s["Name"]
         elif name != s["Name"]:
             sys.exit("symbol %d: the tools differ about the name" % index)
-        facts.append("symbol %x %d %x %x %x %x %s" % (index, sec, ntype, sclass, numaux, value, name))
+        facts.append("symbol %x %d %s %x %x %x %s" % (index, sec, type_word(ntype, sclass, version2), sclass, numaux, value, name))
         found = blocks(block, "CSECT Auxiliary Entry", "    ")
         if found and sclass in (2, 107, 111):
             c = fields(found[-1])
@@ -282,27 +299,30 @@ def facts_of(listing):
     first = found["llvm-readobj-19 --file-headers --auxiliary-header --sections"]
     bits = int(re.search(r"AddressSize: (\d+)bit", first).group(1))
     facts, sections = header_facts(first, bits)
-    if facts != header_facts(found["llvm-readobj-14 --file-headers --section-headers"], bits)[0]:
+    older = found.get("llvm-readobj-14 --file-headers --section-headers")
+    if older is not None and facts != header_facts(older, bits)[0]:
         sys.exit("llvm-readobj 19 and 14 differ")
     check_sections(facts, found.get("GNU objdump -x") or found["GNU objdump -h -f"])
     facts += module_facts(first)
     loader = found.get("llvm-readobj-19 --loader-section-header --loader-section-symbols --loader-section-relocations")
     if loader is None:
-        # Of a large file only the first symbols are listed, and not its relocations.
-        loader = found["llvm-readobj-19 loader header"] + found["(large file: first lines of the rest)"]
+        # Of a large file only the first symbols are listed, and not its relocations; an object file has no loader section.
+        loader = found.get("llvm-readobj-19 loader header", "") + found.get("(large file: first lines of the rest)", "")
     dynamic = found.get("GNU objdump -T -R (shared objects only)", "")
     tables = loader_facts(loader, dump(found.get("GNU objdump -s .debug .loader", "")))
     check_dynamic(tables, dynamic)
     facts += tables + relocation_facts(loader, dynamic)
     if "llvm-readobj-19 --syms" in found:
-        facts += symbol_facts(found["llvm-readobj-19 --syms"], found["GNU objdump -x"], sections)
-        check_names(found["GNU objdump -x"], found["GNU nm -A"])
+        auxiliary = "".join(blocks(first, "AuxiliaryHeader", ""))
+        facts += symbol_facts(found["llvm-readobj-19 --syms"], found["GNU objdump -x"], sections, version_2(auxiliary, bits))
+        if "GNU nm -A" in found:
+            check_names(found["GNU objdump -x"], found["GNU nm -A"])
     return facts
 
 
 def write_verdicts(corpus):
     with open(os.path.join(corpus, "verdicts.txt"), encoding="latin-1") as f:
-        verdicts = dict(verdict(line) for line in f if line.strip())
+        verdicts = dict(verdict(corpus, line) for line in f if line.strip())
     with open(os.path.join(HERE, "verdicts.txt"), "w", encoding="latin-1") as f:
         for name in names():
             if name in verdicts:

@@ -73,7 +73,9 @@ def opened(o):
 
 
 def symbol(s):
-    return "%x %d %s %s" % (s["value"], s["scnum"], words(s, "type", "sclass", "numaux"), name(s["name"]))
+    visibility = s.get("visibility")
+    ntype = "%x" % s["type"] if visibility is None else "%x/%d" % (s["type"], visibility)
+    return "%x %d %s %s %s" % (s["value"], s["scnum"], ntype, words(s, "sclass", "numaux"), name(s["name"]))
 
 
 def walk(w):
@@ -212,10 +214,26 @@ def has_debug_name(bits, entry):
     return entry[16] & 0x80 and not short and any(entry[4:8] if bits == 32 else entry[8:12])
 
 
+def has_version_2(data):
+    """XCOFF32 with an auxiliary header of 4 bytes or more that has version 2."""
+    return data[:2] == b"\x01\xdf" and int.from_bytes(data[16:18], "big") >= 4 and data[22:24] == b"\0\x02"
+
+
+def has_new_type(case, entry):
+    """A class whose type has a visibility in a file of auxiliary version 2; a csect's answer does not have it and is another
+    only where it is 5 to 7."""
+    return entry[16] in (2, 107, 111) and (case["op"] != "csect" or entry[14] >> 4 & 7 > 4)
+
+
 def stands(case):
-    """Whether no request that came after the case can change its answer. Request 1: names of debug classes."""
-    bits, table = symbol_table(file_of(case))
-    return 1 in case["requests"] or not any(has_debug_name(bits, entry) for entry in entries_of(case, table))
+    """Whether no request that came after the case can change its answer. Request 1: names of debug classes. Request 9: types
+    that have a visibility."""
+    data = file_of(case)
+    bits, table = symbol_table(data)
+    entries = entries_of(case, table)
+    names_stand = 1 in case["requests"] or not any(has_debug_name(bits, entry) for entry in entries)
+    types_stand = 9 in case["requests"] or not has_version_2(data) or not any(has_new_type(case, entry) for entry in entries)
+    return names_stand and types_stand
 
 
 def file_of(case):

@@ -10,6 +10,7 @@ use Rattle.format.specs.declared.Format.{Format}
 use Rattle.format.specs.declared.Format.the-variants.{Xcoff32, Xcoff64}
 use Rattle.format.specs.declared.SymbolIndex.{SymbolIndex}
 use Rattle.refusal.specs.declared.Refusal.the-variants as refusal
+use Rattle.visibility.specs.Visibility.{isCsectClass}
 use Rattle.symbol.specs.declared.Tables.{Tables}
 use Rattle.symbol.specs.declared.Symbol.{Symbol}
 use Rattle.symbol.specs.declared.SymbolAnswer.{SymbolAnswer}
@@ -55,10 +56,6 @@ auxAt f base file =
       auxtype = fieldIn auxtypeField base file;
     }
 
--- the storage classes that carry a csect entry
-unfoldable pub carriesCsect : ℕ → Bool
-carriesCsect sclass = eqb sclass 2 || eqb sclass 107 || eqb sclass 111
-
 -- XCOFF64 marks a csect auxiliary by 251
 abbrev pub isMarked : Format → CsectAux → Bool
 isMarked Xcoff32 a = true
@@ -92,7 +89,7 @@ csectOf k a = record { kind = k; align = a .smtyp / 8; smclas = a .smclas; lengt
 unfoldable pub typedCsect : Format → SymbolIndex → Symbol → CsectAux → TypeAnswer → CsectAnswer
 typedCsect f i s a Unknown = Refused (refusal.Csect i)
 typedCsect f i s a (Known k) =
-    cond (carriesCsect (s .sclass) && ltb 0 (s .numaux) && isMarked f a && isMapped k (a .smclas)) (Found (csectOf k a)) (Refused (refusal.Csect i))
+    cond (isCsectClass (s .sclass) && ltb 0 (s .numaux) && isMarked f a && isMapped k (a .smclas)) (Found (csectOf k a)) (Refused (refusal.Csect i))
 
 -- the csect entry of the symbol s at index i, an LD's container not looked at
 unfoldable pub ownCsect : List ℕ → Tables → SymbolIndex → Symbol → CsectAnswer

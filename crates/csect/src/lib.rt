@@ -4,7 +4,7 @@ ghost use Prim.Native.Nat.{_+_, _%_, _≤_};
 ghost use lib.ListN.{length};
 ghost use Rattle.format.specs.Layout.{symbolLength};
 ghost use Rattle.symbol.specs.Entry.{OpenTables};
-ghost use Rattle.csect.specs.Csect.{lengthAt, auxAt, carriesCsect, isMarked, typeOf, isMappingClass, isMapped, typedCsect, ownAfter};
+ghost use Rattle.csect.specs.Csect.{lengthAt, auxAt, isMarked, typeOf, isMappingClass, isMapped, typedCsect, ownAfter};
 ghost use Rattle.symbol.specs.Symbol.{symbolIn};
 use format::Format;
 use format::SymbolIndex;
@@ -67,17 +67,6 @@ fn read_aux(file: &[u8], f: Format, base: usize) -> CsectAux
         smtyp: word::read_field(file, base, word::one(10)),
         smclas: word::read_field(file, base, word::one(11)),
         auxtype: word::read_field(file, base, word::one(17)),
-    }
-}
-
-fn carries_csect(sclass: u64) -> bool
-    ensures { λ r. ⌜ r ≡ carriesCsect sclass ⌝ }
-{
-    match sclass {
-        2 => true,
-        107 => true,
-        111 => true,
-        _ => false,
     }
 }
 
@@ -147,7 +136,7 @@ fn judge_csect(f: Format, i: SymbolIndex, s: Symbol, a: CsectAux) -> CsectAnswer
     let TypeAnswer::Known(k) = t else {
         return CsectAnswer::Refused(Refusal::Csect(i));
     };
-    if !carries_csect(s.sclass) {
+    if !visibility::is_csect_class(s.sclass) {
         return CsectAnswer::Refused(Refusal::Csect(i));
     }
     if s.numaux == 0 {

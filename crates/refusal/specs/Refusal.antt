@@ -20,7 +20,7 @@ use Rattle.refusal.specs.declared.PlanItem.the-variants.{TextAddress, Da
 use Rattle.refusal.specs.declared.RoomItem.{RoomItem}
 use Rattle.refusal.specs.declared.RoomItem.the-variants.{TextBuffer, SheetBuffer, RowBuffer, RecordBuffer, DataBuffer, AddressList}
 use Rattle.refusal.specs.declared.Refusal.{Refusal}
-use Rattle.refusal.specs.declared.Refusal.the-variants.{Short, Magic, Limit, Kind, Bounds, Address, Strings, Index, Aux, Name, Scnum, Csect, Module, Thread, Loader, Lsym, Lrel, Overlap, Plan, Room, Sheet, Record, Form, Clash}
+use Rattle.refusal.specs.declared.Refusal.the-variants.{Short, Magic, Limit, Kind, Bounds, Address, Strings, Index, Aux, Name, Scnum, Csect, Module, Thread, Loader, Lsym, Lrel, Overlap, Plan, Room, Sheet, Record, Form, Clash, Visibility}
 use Rattle.refusal.specs.declared.Head.{Head}
 use Rattle.refusal.specs.declared.Verdict.{Verdict}
 use Rattle.refusal.specs.declared.Verdict.the-variants.{Accepted, Refused}
@@ -51,6 +51,7 @@ numberOf Sheet = 21
 numberOf (Record i) = 22
 numberOf Form = 23
 numberOf Clash = 24
+numberOf (Visibility i) = 30
 
 -- the items of the numbers that name several things
 abbrev pub limitItem : LimitItem → ℕ
@@ -134,6 +135,7 @@ itemOf Sheet = 0
 itemOf (Record i) = i
 itemOf Form = 0
 itemOf Clash = 0
+itemOf (Visibility i) = i .0
 
 -- what every report starts with: the number and the item of a refusal, 0 and 0 where the call is accepted
 abbrev pub reportHead : Verdict → Head

@@ -85,7 +85,7 @@ pub enum RoomItem {
     AddressList,
 }
 
-// In the order of the numbers, 1 SHORT to 24 CLASH.
+// In the order of the numbers, 1 SHORT to 24 CLASH, and 30 VISIBILITY.
 pub enum Refusal {
     // the file or header area ends early
     Short,
@@ -124,6 +124,8 @@ pub enum Refusal {
     Form,
     // text and data share an address
     Clash,
+    // a symbol type with visibility bits that mean nothing
+    Visibility(SymbolIndex),
 }
 
 // Whether something is taken.
@@ -282,6 +284,7 @@ pub fn number(x: Refusal) -> u64
         Refusal::Record(_) => 22,
         Refusal::Form => 23,
         Refusal::Clash => 24,
+        Refusal::Visibility(_) => 30,
     }
 }
 
@@ -314,6 +317,7 @@ pub fn item(x: Refusal) -> u64
         Refusal::Record(i) => i,
         Refusal::Form => 0,
         Refusal::Clash => 0,
+        Refusal::Visibility(i) => i.0,
     }
 }
 

@@ -1,6 +1,7 @@
 -- Bench figures of document 01, computed from the definitions. Assumes nothing.
 use Prim.Native.Nat.{ℕ}
 use mathlib.Core.Path.{_≡_, refl}
+use mathlib.Core.Bool.{false}
 use mathlib.Core.List.{List, [], _∷_, map}
 use Rattle.word.specs.Zero.{firstZero}
 use Rattle.format.specs.declared.Format.the-variants.{Xcoff32}
@@ -20,7 +21,7 @@ abbrev pub strings : List ℕ
 strings = 0 ∷ 0 ∷ 0 ∷ 7 ∷ 0x61 ∷ 0x62 ∷ 0 ∷ []
 
 abbrev pub tables : Tables
-tables = record { format = Xcoff32; nscns = 0; start = record { 0 = 0 }; count = 0; strings = range 0 7; ends = 7; debug = NotOne }
+tables = record { format = Xcoff32; nscns = 0; start = record { 0 = 0 }; count = 0; strings = range 0 7; ends = 7; debug = NotOne; version2 = false }
 
 abbrev pub index : SymbolIndex
 index = record { 0 = 9 }

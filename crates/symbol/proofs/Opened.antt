@@ -1,6 +1,7 @@
 -- The tables of an accepted file. Assumes nothing.
 use Prim.Native.Nat.{ℕ, _+_, _*_, _≤_, _<_}
 use mathlib.Core.Path.{_≡_, refl}
+use mathlib.Core.Bool.{Bool}
 use mathlib.Core.List.{List}
 use native.Mathlib.Omega.{arith}
 use lib.ListN.{length}
@@ -12,9 +13,11 @@ use Rattle.refusal.specs.declared.Verdict.the-variants.{Accepted}
 use Rattle.header.specs.declared.Opened.{Opened}
 use Rattle.header.specs.declared.Summary.{Summary}
 use Rattle.header.specs.Open.{openOf}
+use Rattle.header.specs.Inside.{Inside}
 use Rattle.header.proofs.Accepted.{opened-inside}
 use Rattle.debug_section.specs.declared.DebugSection.{DebugSection}
 use Rattle.debug_section.specs.Debug.{debugOf, DebugInside}
+use Rattle.visibility.specs.Visibility.{hasVersion2}
 use Rattle.debug_section.proofs.Sections.{debug-inside}
 use Rattle.symbol.specs.declared.Tables.{Tables}
 use Rattle.symbol.specs.Entry.{OpenTables, entryStart}
@@ -47,6 +50,9 @@ module _ (file : List ℕ) {y : Summary} (k : openOf file .verdict ≡ Accepted)
   pub few-sections : y .count ≤ sectionLimit
   few-sections = rw e (opened-inside file k .few)
 
-  pub tables-open : {n : ℕ} {d : DebugSection} → n ≡ zeroEnd (bytesOf file (y .symbols .strings)) → d ≡ debugOf y
-      → OpenTables file (record { format = y .format; nscns = y .count; start = y .symbols .start; count = y .symbols .count; strings = y .symbols .strings; ends = n; debug = d })
-  tables-open z q = record { accepted = k; tables = rw (z, q, e) refl }
+  pub summary-inside : Inside file y
+  summary-inside = rw e (opened-inside file k)
+
+  pub tables-open : {n : ℕ} {d : DebugSection} {v : Bool} → n ≡ zeroEnd (bytesOf file (y .symbols .strings)) → d ≡ debugOf y → v ≡ hasVersion2 file y
+      → OpenTables file (record { format = y .format; nscns = y .count; start = y .symbols .start; count = y .symbols .count; strings = y .symbols .strings; ends = n; debug = d; version2 = v })
+  tables-open z q v = record { accepted = k; tables = rw (z, q, v, e) refl }

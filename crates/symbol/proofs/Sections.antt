@@ -12,6 +12,7 @@ use Rattle.format.specs.declared.SymbolIndex.{SymbolIndex}
 use Rattle.refusal.specs.declared.Refusal.the-variants.{Scnum}
 use Rattle.refusal.specs.declared.Verdict.the-variants as verdict
 use Rattle.refusal.proofs.Order.{accepted-test}
+use Rattle.symbol.specs.declared.Tables.{Tables}
 use Rattle.symbol.specs.declared.SymbolEntry.{SymbolEntry}
 use Rattle.symbol.specs.declared.SymbolSection.the-variants.{Debug, Absolute, Undefined, In}
 use Rattle.symbol.specs.Symbol.{scnumOf, sectionOf, sectionIn, isSection, scnumCheck, symbolOf}
@@ -75,9 +76,9 @@ number-kept (negsuc zero) e = refl
 number-kept (negsuc (suc zero)) e = refl
 number-kept (negsuc (suc (suc n))) e = absurd (omega (arith, leb-true (suc (suc n)) 1 e))
 
-pub scnum-kept : (nscns : ℕ) (i : SymbolIndex) (e : SymbolEntry) → scnumCheck nscns i e ≡ verdict.Accepted → scnumOf (symbolOf e .section) ≡ signed16 (e .scnum)
+pub scnum-kept : (t : Tables) (nscns : ℕ) (i : SymbolIndex) (e : SymbolEntry) → scnumCheck nscns i e ≡ verdict.Accepted → scnumOf (symbolOf t e .section) ≡ signed16 (e .scnum)
 unfolding scnumCheck isSection symbolOf sectionIn
-scnum-kept nscns i e k =
+scnum-kept t nscns i e k =
     let s = signed16 (e .scnum) in
     let low = lebℤ (scnumOf Debug) s in
     let high = lebℤ s (pos nscns) in

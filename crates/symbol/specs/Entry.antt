@@ -13,10 +13,11 @@ use Rattle.refusal.specs.declared.Verdict.the-variants.{Accepted}
 use Rattle.header.specs.declared.Summary.{Summary}
 use Rattle.header.specs.Open.{openOf}
 use Rattle.debug_section.specs.Debug.{debugOf}
+use Rattle.visibility.specs.Visibility.{hasVersion2}
 use Rattle.symbol.specs.declared.Tables.{Tables}
 use Rattle.symbol.specs.declared.SymbolEntry.{SymbolEntry}
 
--- all that entries and their names are judged by: where symbols and strings lie, where the last string ends, and the debug section
+-- all that entries and their names are judged by: where symbols and strings lie, where the last string ends, the debug section, and whether types may have a visibility
 abbrev pub tablesOf : List ℕ → Summary → Tables
 tablesOf file y =
     record {
@@ -27,6 +28,7 @@ tablesOf file y =
       strings = y .symbols .strings;
       ends = zeroEnd (bytesOf file (y .symbols .strings));
       debug = debugOf y;
+      version2 = hasVersion2 file y;
     }
 
 -- as opening finds them

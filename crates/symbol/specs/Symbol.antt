@@ -1,4 +1,4 @@
--- A symbol read at an index: INDEX, AUX, SECTION, NAME.
+-- A symbol read at an index: INDEX, AUX, SECTION, NAME, VISIBILITY.
 use Prim.Native.Nat.{ℕ, zero, suc, _+_}
 use mathlib.Core.Bool.{Bool, not, _&&_}
 use mathlib.Core.List.{List, [], _∷_}
@@ -7,13 +7,14 @@ use lib.IntN.{ℤ, pos, negsuc}
 use Rattle.word.specs.Signed.{signed16, lebℤ}
 use Rattle.word.specs.Test.{past}
 use Rattle.format.specs.declared.SymbolIndex.{SymbolIndex}
-use Rattle.refusal.specs.declared.Refusal.the-variants.{Index, Aux, Scnum}
+use Rattle.refusal.specs.declared.Refusal.the-variants.{Index, Aux, Scnum, Visibility}
 use Rattle.refusal.specs.declared.IndexItem.the-variants.{NoSymbol}
 use Rattle.refusal.specs.declared.RangeAnswer.{RangeAnswer}
 use Rattle.refusal.specs.declared.RangeAnswer.the-variants as range
 use Rattle.refusal.specs.declared.Verdict.{Verdict}
 use Rattle.refusal.specs.declared.Verdict.the-variants as verdict
 use Rattle.refusal.specs.Order.{_orElse_, refuseIf, firstRefusal, byVerdict}
+use Rattle.visibility.specs.Visibility.{isUnknown, visibilityOf}
 use Rattle.symbol.specs.declared.Tables.{Tables}
 use Rattle.symbol.specs.declared.SymbolEntry.{SymbolEntry}
 use Rattle.symbol.specs.declared.SymbolSection.{SymbolSection}
@@ -69,9 +70,13 @@ verdictOf (range.Refused x) = verdict.Refused x
 unfoldable pub nameCheck : List ℕ → Tables → SymbolIndex → SymbolEntry → Verdict
 nameCheck file t i e = verdictOf (roomIn file t i e)
 
+-- VISIBILITY
+unfoldable pub visibilityCheck : Bool → SymbolIndex → SymbolEntry → Verdict
+visibilityCheck version2 i e = refuseIf (isUnknown version2 (e .sclass) (e .ntype)) (Visibility i)
+
 -- the checks of the entry e at index i, in their order
 abbrev pub symbolChecks : List ℕ → Tables → SymbolIndex → SymbolEntry → List Verdict
-symbolChecks file t i e = auxCheck (t .count) i e ∷ scnumCheck (t .nscns) i e ∷ nameCheck file t i e ∷ []
+symbolChecks file t i e = auxCheck (t .count) i e ∷ scnumCheck (t .nscns) i e ∷ nameCheck file t i e ∷ visibilityCheck (t .version2) i e ∷ []
 
 -- a read takes the first refusal; an entry that is not there has no record, so INDEX comes before them
 unfoldable pub symbolCheck : List ℕ → Tables → SymbolIndex → SymbolEntry → Verdict
@@ -79,9 +84,17 @@ symbolCheck file t i e = indexCheck (t .count) i orElse firstRefusal (symbolChec
 
 -- ---- the symbol
 
-unfoldable pub symbolOf : SymbolEntry → Symbol
-symbolOf e =
-    record { value = e .value; section = sectionIn (e .scnum); ntype = e .ntype; sclass = e .sclass; numaux = e .numaux }
+-- the whole type, and the visibility beside it
+unfoldable pub symbolOf : Tables → SymbolEntry → Symbol
+symbolOf t e =
+    record {
+      value = e .value;
+      section = sectionIn (e .scnum);
+      ntype = e .ntype;
+      sclass = e .sclass;
+      numaux = e .numaux;
+      visibility = visibilityOf (t .version2) (e .sclass) (e .ntype);
+    }
 
 unfoldable pub symbolIn : List ℕ → Tables → SymbolIndex → SymbolAnswer
-symbolIn file t i = byVerdict (symbolCheck file t i (entryOf file t i)) (Found (symbolOf (entryOf file t i))) Refused
+symbolIn file t i = byVerdict (symbolCheck file t i (entryOf file t i)) (Found (symbolOf t (entryOf file t i))) Refused

@@ -24,9 +24,10 @@ use refusal::IndexItem;
 use refusal::RangeAnswer;
 use refusal::Refusal;
 use refusal::Verdict;
+use visibility::Visibility;
 
 // All that entries and their names are judged by: where symbols and strings lie in an opened file, one past the last zero of
-// the strings, and the debug section. Exactly the offsets below `ends` have a zero at or after them, so a walk judges each name
+// the strings, the debug section, and whether types may have a visibility. Exactly the offsets below `ends` have a zero at or after them, so a walk judges each name
 // by comparisons and stays linear in the file.
 pub struct Tables {
     pub format: Format,
@@ -36,6 +37,7 @@ pub struct Tables {
     pub strings: FileRange,
     pub ends: u64,
     pub debug: DebugSection,
+    pub version2: bool,
 }
 
 // What the 18 bytes of an entry hold.
@@ -62,6 +64,7 @@ pub struct Symbol {
     pub ntype: u64,
     pub sclass: u64,
     pub numaux: u64,
+    pub visibility: Visibility,
 }
 
 pub enum SymbolAnswer {
@@ -96,6 +99,7 @@ pub fn tables_of(file: &[u8], y: Summary) -> Tables
         strings,
         ends: names_end(file, strings),
         debug: debug_section::find_debug(y),
+        version2: visibility::has_version_2(file, y),
     }
 }
 
@@ -222,7 +226,7 @@ pub fn name_room(file: &[u8], t: Tables, i: SymbolIndex, e: SymbolEntry) -> File
     }
 }
 
-// AUX, SECTION and NAME of the entry `e` at the index `i`, in this order.
+// AUX, SECTION, NAME and VISIBILITY of the entry `e` at the index `i`, in this order.
 pub fn check_entry(file: &[u8], t: Tables, i: SymbolIndex, e: SymbolEntry) -> Verdict
     requires { ⌜ OpenTables (now file) t × (i .0 < t .count) ⌝ }
     ensures { λ r. ⌜ r ≡ firstRefusal (symbolChecks (now (file .entry)) t i e) ⌝ }
@@ -236,6 +240,9 @@ pub fn check_entry(file: &[u8], t: Tables, i: SymbolIndex, e: SymbolEntry) -> Ve
     let name = e.name;
     if !has_name(file, t, e.sclass, name) {
         return Verdict::Refused(Refusal::Name(i));
+    }
+    if visibility::is_unknown(t.version2, e.sclass, e.ntype) {
+        return Verdict::Refused(Refusal::Visibility(i));
     }
     Verdict::Accepted
 }
@@ -255,8 +262,8 @@ fn section_in(scnum: u64) -> SymbolSection
     SymbolSection::Absolute
 }
 
-fn symbol_of(e: SymbolEntry) -> Symbol
-    ensures { λ r. ⌜ r ≡ symbolOf e ⌝ }
+fn symbol_of(t: Tables, e: SymbolEntry) -> Symbol
+    ensures { λ r. ⌜ r ≡ symbolOf t e ⌝ }
 {
     Symbol {
         value: e.value,
@@ -264,6 +271,7 @@ fn symbol_of(e: SymbolEntry) -> Symbol
         ntype: e.ntype,
         sclass: e.sclass,
         numaux: e.numaux,
+        visibility: visibility::visibility_of(t.version2, e.sclass, e.ntype),
     }
 }
 
@@ -279,6 +287,6 @@ pub fn symbol_in(file: &[u8], t: Tables, i: SymbolIndex) -> SymbolAnswer
     let v = check_entry(file, t, i, e);
     match v {
         Verdict::Refused(x) => SymbolAnswer::Refused(x),
-        Verdict::Accepted => SymbolAnswer::Found(symbol_of(e)),
+        Verdict::Accepted => SymbolAnswer::Found(symbol_of(t, e)),
     }
 }

@@ -1,14 +1,17 @@
 -- A symbol looked up in a file by its index, and its name.
 use Prim.Native.Nat.{ℕ, suc, _-_, _^_}
+use mathlib.Core.Bool.{Bool, true, false}
 use mathlib.Core.List.{List}
 use lib.IntN.{ℤ, pos, negsuc}
 use Rattle.format.specs.declared.SymbolIndex.{SymbolIndex}
 use Rattle.refusal.specs.declared.RangeAnswer.{RangeAnswer}
 use Rattle.refusal.specs.declared.RangeAnswer.the-variants as range
 use Rattle.refusal.specs.declared.Verdict.the-variants as verdict
-use Rattle.refusal.specs.Refusal.{reportHead}
+use Rattle.refusal.specs.Refusal.{reportHead, oneIf}
 use Rattle.refusal.specs.Order.{byVerdict}
 use Rattle.header.specs.Open.{openOf}
+use Rattle.visibility.specs.declared.Visibility.{Visibility}
+use Rattle.visibility.specs.declared.Visibility.the-variants.{NotClaimed, Claimed}
 use Rattle.symbol.specs.declared.Tables.{Tables}
 use Rattle.symbol.specs.declared.SymbolAnswer.{SymbolAnswer}
 use Rattle.symbol.specs.declared.SymbolAnswer.the-variants.{Found, Refused}
@@ -35,12 +38,39 @@ abbrev pub signed64 : ℤ → ℕ
 signed64 (pos n) = n
 signed64 (negsuc n) = 2 ^ 64 - suc n
 
--- the answer in document 01's numbers
+-- a visibility in numbers: 0 none, 1 internal, 2 hidden, 3 protected, 4 exported
+abbrev pub claims : Visibility → Bool
+claims NotClaimed = false
+claims (Claimed n) = true
+
+abbrev pub visibilityNumber : Visibility → ℕ
+visibilityNumber NotClaimed = 0
+visibilityNumber (Claimed n) = n
+
+-- the answer in the documents' numbers
 abbrev pub reportOfSymbol : SymbolAnswer → SymbolReport
 reportOfSymbol (Found s) =
-    record { head = reportHead verdict.Accepted; value = s .value; scnum = signed64 (scnumOf (s .section)); ntype = s .ntype; sclass = s .sclass; numaux = s .numaux }
+    record {
+      head = reportHead verdict.Accepted;
+      value = s .value;
+      scnum = signed64 (scnumOf (s .section));
+      ntype = s .ntype;
+      sclass = s .sclass;
+      numaux = s .numaux;
+      «has_visibility» = oneIf (claims (s .visibility));
+      visibility = visibilityNumber (s .visibility);
+    }
 reportOfSymbol (Refused x) =
-    record { head = reportHead (verdict.Refused x); value = 0; scnum = 0; ntype = 0; sclass = 0; numaux = 0 }
+    record {
+      head = reportHead (verdict.Refused x);
+      value = 0;
+      scnum = 0;
+      ntype = 0;
+      sclass = 0;
+      numaux = 0;
+      «has_visibility» = 0;
+      visibility = 0;
+    }
 
 abbrev pub symbolReport : List ℕ → SymbolIndex → SymbolReport
 symbolReport file i = reportOfSymbol (symbolAt file i)

@@ -3,7 +3,7 @@ ghost use mathlib.Core.Path.{_≡_};
 ghost use Rattle.refusal.specs.Part.{rangeBytes, reportOfRange};
 ghost use Rattle.symbol.specs.Entry.{OpenTables};
 ghost use Rattle.symbol.specs.Symbol.{scnumOf, symbolIn};
-ghost use Rattle.symbol_lookup.specs.Lookup.{symbolAt, nameBehind, symbolNameAt, signed64, reportOfSymbol, symbolReport};
+ghost use Rattle.symbol_lookup.specs.Lookup.{symbolAt, nameBehind, symbolNameAt, signed64, claims, visibilityNumber, reportOfSymbol, symbolReport};
 use format::SymbolIndex;
 use refusal::Head;
 use refusal::RangeAnswer;
@@ -12,8 +12,9 @@ use refusal::Verdict;
 use symbol::SymbolAnswer;
 use symbol::SymbolSection;
 use symbol::Tables;
+use visibility::Visibility;
 
-// `scnum` is signed, in two's complement.
+// `scnum` is signed, in two's complement; `visibility` is 0 where `has_visibility` is.
 #[repr(C)]
 pub struct SymbolReport {
     pub head: Head,
@@ -22,9 +23,11 @@ pub struct SymbolReport {
     pub ntype: u64,
     pub sclass: u64,
     pub numaux: u64,
+    pub has_visibility: u64,
+    pub visibility: u64,
 }
 
-// The symbol at an index: opening's refusals, then INDEX, AUX, SECTION, NAME.
+// The symbol at an index: opening's refusals, then INDEX, AUX, SECTION, NAME, VISIBILITY.
 pub fn symbol_at(file: &[u8], i: SymbolIndex) -> SymbolAnswer
     ensures cause { λ r. ⌜ r ≡ symbolAt (now (file .entry)) i ⌝ }
     ensures report { λ r. ⌜ reportOfSymbol r ≡ symbolReport (now (file .entry)) i ⌝ }
@@ -93,6 +96,24 @@ fn scnum_of(s: SymbolSection) -> u64
     }
 }
 
+fn is_claimed(v: Visibility) -> bool
+    ensures { λ r. ⌜ r ≡ claims v ⌝ }
+{
+    match v {
+        Visibility::NotClaimed => false,
+        Visibility::Claimed(_) => true,
+    }
+}
+
+fn bits_of(v: Visibility) -> u64
+    ensures { λ r. ⌜ r ≡ visibilityNumber v ⌝ }
+{
+    match v {
+        Visibility::NotClaimed => 0,
+        Visibility::Claimed(n) => n,
+    }
+}
+
 pub fn report_symbol(a: SymbolAnswer) -> SymbolReport
     ensures { λ r. ⌜ r ≡ reportOfSymbol a ⌝ }
 {
@@ -104,9 +125,12 @@ pub fn report_symbol(a: SymbolAnswer) -> SymbolReport
             ntype: 0,
             sclass: 0,
             numaux: 0,
+            has_visibility: 0,
+            visibility: 0,
         },
         SymbolAnswer::Found(s) => {
             let section = s.section;
+            let v = s.visibility;
             SymbolReport {
                 head: refusal::report_head(Verdict::Accepted),
                 value: s.value,
@@ -114,6 +138,8 @@ pub fn report_symbol(a: SymbolAnswer) -> SymbolReport
                 ntype: s.ntype,
                 sclass: s.sclass,
                 numaux: s.numaux,
+                has_visibility: refusal::one_if(is_claimed(v)),
+                visibility: bits_of(v),
             }
         }
     }

@@ -18,7 +18,8 @@ use Rattle.csect.specs.declared.TypeAnswer.{TypeAnswer}
 use Rattle.csect.specs.declared.TypeAnswer.the-variants.{Known, Unknown}
 use Rattle.csect.specs.declared.CsectAnswer.{CsectAnswer}
 use Rattle.csect.specs.declared.CsectAnswer.the-variants.{Found, Refused}
-use Rattle.csect.specs.Csect.{carriesCsect, isMarked, isMapped, typedCsect, ownCsect, ownAfter}
+use Rattle.visibility.specs.Visibility.{isCsectClass}
+use Rattle.csect.specs.Csect.{isMarked, isMapped, typedCsect, ownCsect, ownAfter}
 use Rattle.csect_lookup.specs.Lookup.{isContained, contained, csectAfter, csectIn, csectReport, reportOfCsect}
 use Rattle.symbol.specs.Entry.{OpenTables}
 use Rattle.symbol_table.proofs.Opened.{csect-is}
@@ -31,7 +32,7 @@ Csect12 (Refused x) = numberOf x ≡ 12
 typed : (f : Format) (i : SymbolIndex) (s : Symbol) (a : CsectAux) (k : TypeAnswer) → Csect12 (typedCsect f i s a k)
 unfolding typedCsect
 typed f i s a Unknown = refl
-typed f i s a (Known k) = either Csect12 (carriesCsect (s .sclass) && ltb 0 (s .numaux) && isMarked f a && isMapped k (a .smclas)) (λ _. tt) (λ _. refl)
+typed f i s a (Known k) = either Csect12 (isCsectClass (s .sclass) && ltb 0 (s .numaux) && isMarked f a && isMapped k (a .smclas)) (λ _. tt) (λ _. refl)
 
 held : (file : List ℕ) (t : Tables) (i : SymbolIndex) (a : CsectAnswer) → Csect12 a → Csect12 (contained file t i a)
 unfolding contained

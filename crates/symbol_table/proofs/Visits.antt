@@ -30,12 +30,12 @@ use Rattle.rows.proofs.Laws.{room-exact}
 use Rattle.symbol_table.specs.Row.{symbolRow}
 use Rattle.symbol_table.specs.Table.{rowsAlong, rowsIn, symbolRows, roomFor, tableCheck, symbolTable, symbolsAfter}
 
-row-length : (file : List ℕ) (i : SymbolIndex) → length (symbolRow file i) ≡ 13
+row-length : (file : List ℕ) (i : SymbolIndex) → length (symbolRow file i) ≡ 15
 unfolding symbolRow
 row-length file i = refl
 
--- 13 numbers for each symbol
-pub rows-length : (file : List ℕ) (is : List SymbolIndex) → length (rowsAlong file is) ≡ 13 * length is
+-- 15 numbers for each symbol
+pub rows-length : (file : List ℕ) (is : List SymbolIndex) → length (rowsAlong file is) ≡ 15 * length is
 unfolding rowsAlong
 rows-length file [] = refl
 rows-length file (i ∷ is) =
@@ -48,8 +48,8 @@ pub record Listing (file : List ℕ) (t : Tables) (l₀ l : List ℕ) (visited i
   pub few : visited ≤ i
   pub inside : i ≤ t .count
   pub same : length l ≡ length l₀
-  pub room : visited * 13 + length (rowsAlong file (visitedFrom file t (t .count - visited) i)) ≡ length l₀
-  pub left : sets l (visited * 13) (rowsAlong file (visitedFrom file t (t .count - visited) i)) ≡ sets l₀ 0 (rowsIn file t)
+  pub room : visited * 15 + length (rowsAlong file (visitedFrom file t (t .count - visited) i)) ≡ length l₀
+  pub left : sets l (visited * 15) (rowsAlong file (visitedFrom file t (t .count - visited) i)) ≡ sets l₀ 0 (rowsIn file t)
 
 module _ (file : List ℕ) (t : Tables) where
   pub listing-start : (l : List ℕ) → length l ≡ length (rowsIn file t) → Listing file t l l 0 0
@@ -60,7 +60,7 @@ module _ (file : List ℕ) (t : Tables) where
   pub listing-end : {l : List ℕ} (l₀ : List ℕ) (visited i : ℕ) → visitedFrom file t (t .count - visited) i ≡ [] → length l₀ ≡ length (rowsIn file t) → Listing file t l₀ l visited i → l ≡ rowsIn file t
   unfolding rowsAlong
   listing-end {l} l₀ visited i none e k =
-      sym (ap (λ (is : List SymbolIndex). sets l (visited * 13) (rowsAlong file is)) none) ∙ k .left ∙ sets-whole l₀ (rowsIn file t) (sym e)
+      sym (ap (λ (is : List SymbolIndex). sets l (visited * 15) (rowsAlong file is)) none) ∙ k .left ∙ sets-whole l₀ (rowsIn file t) (sym e)
 
   -- a turn
   module _ {l₀ : List ℕ} (l : List ℕ) (visited i : ℕ) (h : i < t .count) (k : Listing file t l₀ l visited i) {s : Symbol} (e : symbolIn file t (record { 0 = i }) ≡ symbol.Found s) where
@@ -68,7 +68,7 @@ module _ (file : List ℕ) (t : Tables) where
     unfolding rowsAlong
     row-next = ap (rowsAlong file) (visited-next file t i visited (k .few) h e)
 
-    lengths : length (rowsAlong file (visitedFrom file t (t .count - visited) i)) ≡ 13 + length (rowsAlong file (visitedFrom file t (t .count - (visited + 1)) (i + 1 + s .numaux)))
+    lengths : length (rowsAlong file (visitedFrom file t (t .count - visited) i)) ≡ 15 + length (rowsAlong file (visitedFrom file t (t .count - (visited + 1)) (i + 1 + s .numaux)))
     lengths =
         let rest = rowsAlong file (visitedFrom file t (t .count - (visited + 1)) (i + 1 + s .numaux)) in
         ap length row-next ∙ length-append (symbolRow file (record { 0 = i })) rest ∙ ap (λ (n : ℕ). n + length rest) (row-length file (record { 0 = i }))
@@ -77,34 +77,34 @@ module _ (file : List ℕ) (t : Tables) where
     pub next-inside : i + 1 + s .numaux ≤ t .count
     next-inside = symbol-in-table file t (record { 0 = i }) e
 
-    pub row-inside : visited * 13 + 13 ≤ length l
+    pub row-inside : visited * 15 + 15 ≤ length l
     row-inside = let room = k .room in let same = k .same in omega (arith, lengths)
 
-    pub listing-next : {out r : List ℕ} → r ≡ symbolRow file (record { 0 = i }) → out ≡ sets l (visited * 13) r → Listing file t l₀ out (visited + 1) (i + 1 + s .numaux)
+    pub listing-next : {out r : List ℕ} → r ≡ symbolRow file (record { 0 = i }) → out ≡ sets l (visited * 15) r → Listing file t l₀ out (visited + 1) (i + 1 + s .numaux)
     listing-next q p =
         let row = symbolRow file (record { 0 = i }) in
         let few = k .few in
         let room = k .room in
-        let place : (visited + 1) * 13 ≡ visited * 13 + length row = rw (row-length file (record { 0 = i })) (omega arith) in
+        let place : (visited + 1) * 15 ≡ visited * 15 + length row = rw (row-length file (record { 0 = i })) (omega arith) in
         record {
           few = omega arith;
           inside = next-inside;
-          same = rw (p, q) (length-sets l (visited * 13) row ∙ k .same);
+          same = rw (p, q) (length-sets l (visited * 15) row ∙ k .same);
           room = omega (arith, lengths);
-          left = rw (p, q, place, ← sets-append l (visited * 13) row (rowsAlong file (visitedFrom file t (t .count - (visited + 1)) (i + 1 + s .numaux))), ← row-next) (k .left);
+          left = rw (p, q, place, ← sets-append l (visited * 15) row (rowsAlong file (visitedFrom file t (t .count - (visited + 1)) (i + 1 + s .numaux))), ← row-next) (k .left);
         }
 
   -- ---- the answers
 
-  module _ (before : List ℕ) {v : Verdict} {w : WalkEnd} (q : w ≡ walkIn file t) (e : v ≡ roomCheck (length before) (13 * w .visited)) where
-    visited-is : 13 * w .visited ≡ 13 * length (visitedIn file t)
-    visited-is = ap (λ (x : WalkEnd). 13 * x .visited) q ∙ ap (λ (n : ℕ). 13 * n) (walk-visited file t)
+  module _ (before : List ℕ) {v : Verdict} {w : WalkEnd} (q : w ≡ walkIn file t) (e : v ≡ roomCheck (length before) (15 * w .visited)) where
+    visited-is : 15 * w .visited ≡ 15 * length (visitedIn file t)
+    visited-is = ap (λ (x : WalkEnd). 15 * x .visited) q ∙ ap (λ (n : ℕ). 15 * n) (walk-visited file t)
 
     room-is : v ≡ roomFor file t (length before)
     room-is = e ∙ ap (roomCheck (length before)) visited-is
 
     pub room-known : v ≡ verdict.Accepted → length before ≡ length (rowsIn file t)
-    room-known k = room-exact (length before) (13 * w .visited) (sym e ∙ k) ∙ visited-is ∙ sym (rows-length file (visitedIn file t))
+    room-known k = room-exact (length before) (15 * w .visited) (sym e ∙ k) ∙ visited-is ∙ sym (rows-length file (visitedIn file t))
 
     pub listed : {after : List ℕ} → v ≡ verdict.Accepted → after ≡ rowsIn file t → (Ended w ≡ byVerdict (roomFor file t (length before)) (Ended (walkIn file t)) Refused) × (after ≡ ifAccepted (roomFor file t (length before)) (rowsIn file t) before)
     listed k p = rw (← room-is, k) (ap Ended q, p)
@@ -136,16 +136,16 @@ module _ (file before : List ℕ) where
       left : after ≡ symbolsAfter file before
       left = unfold symbolsAfter tableCheck symbolRows in rw (o .accepted) (rw (o .tables) at z)
 
--- 13 numbers for each symbol that `walk` counts are exactly what the rows take: with them the answer is the walk's
-pub symbols-need : (file : List ℕ) → (symbolTable file (13 * walkReport file .visited) ≡ walkOf file) × (length (symbolRows file) ≡ 13 * walkReport file .visited)
+-- 15 numbers for each symbol that `walk` counts are exactly what the rows take: with them the answer is the walk's
+pub symbols-need : (file : List ℕ) → (symbolTable file (15 * walkReport file .visited) ≡ walkOf file) × (length (symbolRows file) ≡ 15 * walkReport file .visited)
 unfolding symbolTable tableCheck walkOf symbolRows roomCheck
 symbols-need file = by-verdict (openOf file .verdict)
   where
     t : Tables
     t = tablesAt file
 
-    by-verdict : (v : Verdict) → (let w : WalkAnswer = byVerdict v (Ended (walkIn file t)) Refused in (byVerdict (v orElse roomFor file t (13 * reportOfWalk w .visited)) (Ended (walkIn file t)) Refused ≡ w) × (length (ifAccepted v (rowsIn file t) []) ≡ 13 * reportOfWalk w .visited))
+    by-verdict : (v : Verdict) → (let w : WalkAnswer = byVerdict v (Ended (walkIn file t)) Refused in (byVerdict (v orElse roomFor file t (15 * reportOfWalk w .visited)) (Ended (walkIn file t)) Refused ≡ w) × (length (ifAccepted v (rowsIn file t) []) ≡ 15 * reportOfWalk w .visited))
     by-verdict (verdict.Refused x) = (refl, refl)
     by-verdict verdict.Accepted =
-        let e = ap (λ (n : ℕ). 13 * n) (walk-visited file t) in
-        (rw (eq-eqb (13 * walkIn file t .visited) (13 * length (visitedIn file t)) e) refl, rows-length file (visitedIn file t) ∙ sym e)
+        let e = ap (λ (n : ℕ). 15 * n) (walk-visited file t) in
+        (rw (eq-eqb (15 * walkIn file t .visited) (15 * length (visitedIn file t)) e) refl, rows-length file (visitedIn file t) ∙ sym e)

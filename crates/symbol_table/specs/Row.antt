@@ -25,4 +25,4 @@ symbolRow file i =
     let s = symbolReport file i in
     let name = symbolRoom file i in
     let c = csectReport file i in
-    i .0 ∷ s .value ∷ s .scnum ∷ s .ntype ∷ s .sclass ∷ s .numaux ∷ name .start .0 ∷ name .length ∷ c .head .number ∷ c .kind ∷ c .align ∷ c .smclas ∷ c .length ∷ []
+    i .0 ∷ s .value ∷ s .scnum ∷ s .ntype ∷ s .sclass ∷ s .numaux ∷ s .«has_visibility» ∷ s .visibility ∷ name .start .0 ∷ name .length ∷ c .head .number ∷ c .kind ∷ c .align ∷ c .smclas ∷ c .length ∷ []

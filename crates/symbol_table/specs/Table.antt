@@ -26,9 +26,9 @@ rowsIn file t = rowsAlong file (visitedIn file t)
 unfoldable pub symbolRows : List ℕ → List ℕ
 symbolRows file = ifAccepted (openOf file .verdict) (rowsIn file (tablesAt file)) []
 
--- ROOM 0: 13 numbers for each symbol that is visited
+-- ROOM 0: 15 numbers for each symbol that is visited
 abbrev pub roomFor : List ℕ → Tables → ℕ → Verdict
-roomFor file t given = roomCheck given (13 * length (visitedIn file t))
+roomFor file t given = roomCheck given (15 * length (visitedIn file t))
 
 -- opening's refusals come first
 unfoldable pub tableCheck : List ℕ → ℕ → Verdict

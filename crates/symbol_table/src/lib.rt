@@ -15,7 +15,7 @@ use symbol::Tables;
 use walk::WalkAnswer;
 
 // The row of the symbol `s` at the index `i`.
-fn symbol_row(file: &[u8], t: Tables, i: SymbolIndex, s: Symbol) -> [u64; 13]
+fn symbol_row(file: &[u8], t: Tables, i: SymbolIndex, s: Symbol) -> [u64; 15]
     requires { ⌜ OpenTables (now file) t × (symbolIn (now file) t i ≡ SymbolAnswer.Found s) ⌝ }
     ensures { λ r. ⌜ r ≡ symbolRow (now (file .entry)) i ⌝ }
 {
@@ -32,6 +32,8 @@ fn symbol_row(file: &[u8], t: Tables, i: SymbolIndex, s: Symbol) -> [u64; 13]
         y.ntype,
         y.sclass,
         y.numaux,
+        y.has_visibility,
+        y.visibility,
         start.0,
         name.length,
         csect.number,
@@ -56,7 +58,7 @@ fn write_symbols(file: &[u8], t: Tables, out: &mut [u64])
             return;
         };
         let row = symbol_row(file, t, SymbolIndex(i), s);
-        rows::write_row(&row, visited * 13, out);
+        rows::write_row(&row, visited * 15, out);
         visited += 1;
         i = i + 1 + s.numaux;
     }
@@ -69,7 +71,7 @@ fn list_symbols(file: &[u8], t: Tables, out: &mut [u64]) -> WalkAnswer
     ensures rows { λ _. ⌜ now (out .exit) ≡ ifAccepted (roomFor (now (file .entry)) t (length (now (out .entry)))) (rowsIn (now (file .entry)) t) (now (out .entry)) ⌝ }
 {
     let w = walk::walk_tables(file, t);
-    let v = rows::check_room(out.len() as u64, 13 * w.visited);
+    let v = rows::check_room(out.len() as u64, 15 * w.visited);
     match v {
         Verdict::Refused(x) => WalkAnswer::Refused(x),
         Verdict::Accepted => {
@@ -79,7 +81,7 @@ fn list_symbols(file: &[u8], t: Tables, out: &mut [u64]) -> WalkAnswer
     }
 }
 
-// A row of 13 numbers for each symbol that the walk visits, in its order.
+// A row of 15 numbers for each symbol that the walk visits, in its order.
 pub fn symbol_table(file: &[u8], out: &mut [u64]) -> WalkAnswer
     ensures cause { λ r. ⌜ r ≡ symbolTable (now (file .entry)) (length (now (out .entry))) ⌝ }
     ensures report { λ r. ⌜ reportOfWalk r ≡ reportOfWalk (symbolTable (now (file .entry)) (length (now (out .entry)))) ⌝ }

@@ -107,7 +107,7 @@ refused-check : (file : List ℕ) (t : Tables) (i : SymbolIndex) {x : Refusal} �
 unfolding symbolIn
 refused-check file t i {x} k = by-verdict (symbolCheck file t i (entryOf file t i)) k
   where
-    by-verdict : (v : Verdict) → byVerdict v (symbol.Found (symbolOf (entryOf file t i))) symbol.Refused ≡ symbol.Refused x → v ≡ verdict.Refused x
+    by-verdict : (v : Verdict) → byVerdict v (symbol.Found (symbolOf t (entryOf file t i))) symbol.Refused ≡ symbol.Refused x → v ≡ verdict.Refused x
     by-verdict verdict.Accepted e = cc
     by-verdict (verdict.Refused y) e = cc
 

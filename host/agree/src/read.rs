@@ -159,14 +159,22 @@ fn opened(file: &[u8]) -> Agreement {
 
 // ---- symbols
 
-pub type Symbol = (u64, i64, u64, u64, u64);
+pub type Symbol = (u64, i64, u64, u64, u64, Option<u64>);
 
 pub fn our_symbol(s: xcoff::Symbol) -> Symbol {
-    (s.value, s.scnum, s.ntype, s.sclass, s.numaux)
+    let visibility = s.visibility.map(|v| v as u64);
+    (s.value, s.scnum, s.ntype, s.sclass, s.numaux, visibility)
 }
 
 pub fn their_symbol(s: &reference::Symbol) -> Symbol {
-    (s.value, s.section, s.kind, s.class, s.auxiliaries)
+    (
+        s.value,
+        s.section,
+        s.kind,
+        s.class,
+        s.auxiliaries,
+        s.visibility,
+    )
 }
 
 pub type Csect = (u64, u64, u64, u64);

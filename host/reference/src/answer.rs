@@ -176,8 +176,12 @@ fn images_text(text: &[u8], data: &[u8]) -> String {
 }
 
 fn entry_text(file: &[u8], entry: &Symbol) -> String {
+    let visibility = match entry.visibility {
+        Some(number) => number.to_string(),
+        None => "none".to_string(),
+    };
     format!(
-        "value {:x} section {} type {:x} class {} aux {} name {}",
+        "value {:x} section {} type {:x} class {} aux {} name {} visibility {visibility}",
         entry.value,
         entry.section,
         entry.kind,

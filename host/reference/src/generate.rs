@@ -10,6 +10,7 @@ mod operations;
 pub mod plans;
 pub mod records;
 pub mod rng;
+pub mod visibility;
 
 use crate::{Call, Plan, Refusal};
 use damage::Hurt;
@@ -136,8 +137,8 @@ pub struct Case {
 }
 
 /// The case of a seed. Every eighth is aimed at request 2, another eighth at
-/// request 1; what belongs to a request is drawn by itself, so that the other
-/// cases stay as they are.
+/// requests 1 and 9; what belongs to a request is drawn by itself, so that the
+/// other cases stay as they are.
 pub fn case(seed: u64) -> Case {
     let rng = &mut Rng::new(seed);
     let later = &mut Rng::new(!seed);
@@ -235,11 +236,12 @@ fn records_file(rng: &mut Rng) -> Drawn {
     }
 }
 
-/// A damage of debugger names, or an accepted edge of them.
+/// A damage of debugger names or visibilities, or an accepted edge of them.
 fn symbols_file(rng: &mut Rng) -> Drawn {
     if rng.chance(40) {
         let mut more = Vec::new();
-        let (label, made) = debug::edge(rng, &mut more);
+        let edge = rng.pick(&[debug::edge, visibility::edge]);
+        let (label, made) = edge(rng, &mut more);
         return Drawn {
             more,
             ..Drawn::plain(&label, made)

@@ -64,9 +64,13 @@ pub const SHEET: u64 = 21;
 pub const RECORD: u64 = 22;
 pub const FORM: u64 = 23;
 pub const CLASH: u64 = 24;
+pub const VISIBILITY: u64 = 30;
 
 /// The word of a refusal number.
 pub fn word(number: u64) -> &'static str {
+    if number == VISIBILITY {
+        return "VISIBILITY";
+    }
     const WORDS: [&str; 25] = [
         "none", "SHORT", "MAGIC", "LIMIT", "KIND", "BOUNDS", "ADDRESS", "STRINGS", "INDEX", "AUX",
         "NAME", "SECTION", "CSECT", "MODULE", "THREAD", "LOADER", "LSYM", "LREL", "OVERLAP",

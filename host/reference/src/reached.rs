@@ -7,8 +7,8 @@ mod edges;
 use crate::generate::Op;
 use crate::opening::{TBSS, TDATA};
 use crate::records::{bad_line, Fault};
-use crate::symbols::{name_fault, NameFault};
-use crate::{module, open, word, Refusal, ROOM};
+use crate::symbols::{ld_container, name_fault, NameFault};
+use crate::{module, open, symbol, word, Refusal, ROOM, VISIBILITY};
 use std::collections::BTreeMap;
 
 /// Operations that reach the same rules, in the order of 01.
@@ -98,6 +98,18 @@ pub const CLASSES: &[Class] = &[
     class(0, "debug class, offset 0", Both, &[Symbol]),
     class(0, "debug class, short name", Only32, &[Symbol]),
     class(0, "class 7F, string table", Both, &[Symbol]),
+    class(0, "visibility 0", Only32, &[Symbol, Csect]),
+    class(0, "visibility 1", Only32, &[Symbol, Csect]),
+    class(0, "visibility 2", Only32, &[Symbol, Csect]),
+    class(0, "visibility 3", Only32, &[Symbol, Csect]),
+    class(0, "visibility 4", Only32, &[Symbol, Csect]),
+    class(0, "visibility, bit 8000", Only32, &[Symbol, Csect]),
+    class(0, "visibility, f_opthdr 4", Only32, &[Symbol, Csect]),
+    class(0, "5 to 7, f_opthdr below 4", Only32, &[Symbol, Csect]),
+    class(0, "5 to 7, version 1", Only32, &[Symbol, Csect]),
+    class(0, "5 to 7, version 3", Only32, &[Symbol, Csect]),
+    class(0, "5 to 7, other class", Only32, &[Symbol]),
+    class(0, "5 to 7, XCOFF64", Only64, &[Symbol, Csect]),
     class(1, "0 under 2 bytes", Neither, OPENING),
     class(1, "0 file header", Both, OPENING),
     class(1, "0 header area", Both, OPENING),
@@ -130,6 +142,7 @@ pub const CLASSES: &[Class] = &[
     class(10, "index: debug string", Both, &[Symbol, Csect]),
     class(11, "index", Both, &[Symbol, Csect]),
     class(12, "index", Both, &[Csect]),
+    class(12, "index: LD, VISIBILITY", Only32, &[Csect]),
     class(13, "0", Both, LOADING),
     class(13, "1", Both, LOADING),
     class(13, "2", Both, LOADING),
@@ -169,6 +182,7 @@ pub const CLASSES: &[Class] = &[
     class(22, "line: surplus", Only32, &[Records]),
     class(23, "0", Only64, &[Records]),
     class(24, "0", Only32, &[Records]),
+    class(30, "index", Only32, &[Symbol, Csect]),
 ];
 
 pub fn group_of(op: &Op) -> Group {
@@ -215,7 +229,8 @@ pub fn item_of(file: &[u8], op: &Op, refusal: &Refusal) -> &'static str {
         6 => address(file, item),
         8 => asked(op),
         10 => name(file, item),
-        9 | 11 | 12 => "index",
+        12 => csect_item(file, item),
+        9 | 11 | 30 => "index",
         13 | 15 => ["0", "1", "2", "3", "4", "5"]
             .get(item as usize)
             .copied()
@@ -302,6 +317,15 @@ fn asked(op: &Op) -> &'static str {
         Op::LoaderSymbol(_) | Op::LoaderSymbolName(_) => "loader symbol",
         Op::ImportPath(_) | Op::ImportBase(_) | Op::ImportMember(_) => "import id",
         _ => "?",
+    }
+}
+
+/// CSECT of the entry at `index`: whether an LD's container has no visibility.
+fn csect_item(file: &[u8], index: u64) -> &'static str {
+    let container = ld_container(file, index).map(|container| symbol(file, container));
+    match container {
+        Some(Err(refusal)) if refusal.number == VISIBILITY => "index: LD, VISIBILITY",
+        _ => "index",
     }
 }
 
@@ -489,7 +513,7 @@ impl Table {
 
     /// The table as text: a dot where a refusal cannot be given.
     pub fn text(&self) -> String {
-        let mut text = format!("{:>3} {:<8} {:<24}{:>4}", "No.", "name", "item", "bits");
+        let mut text = format!("{:>3} {:<10} {:<24}{:>4}", "No.", "name", "item", "bits");
         for (_, word) in GROUPS {
             text += &format!(" {word:>7}");
         }
@@ -519,7 +543,7 @@ fn title((class, bits): Row) -> String {
         bits.to_string()
     };
     format!(
-        "{:>3} {:<8} {:<24}{bits:>4}",
+        "{:>3} {:<10} {:<24}{bits:>4}",
         class.number,
         match class.number {
             0 => "accepted",

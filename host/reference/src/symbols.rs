@@ -1,8 +1,9 @@
-//! Document 01, "Symbols and csects"; debugger names are request 1 of document 02.
+//! Document 01, "Symbols and csects"; debugger names are request 1 of document 02,
+//! visibilities request 9.
 
 use crate::bytes::{by, number};
 use crate::opening::{open, Section, Summary, DEBUG};
-use crate::{refuse, Refusal, AUX, CSECT, INDEX, NAME, SECTION};
+use crate::{refuse, Refusal, AUX, CSECT, INDEX, NAME, SECTION, VISIBILITY};
 use std::ops::Range;
 
 #[derive(Clone, Debug, PartialEq, Eq)]
@@ -19,6 +20,9 @@ pub struct Symbol {
     pub auxiliaries: u64,
     /// Where the name lies in the file.
     pub name: Range<usize>,
+    /// 0 none, 1 internal, 2 hidden, 3 protected, 4 exported; nothing where the
+    /// type is a plain number.
+    pub visibility: Option<u64>,
 }
 
 /// What the walk found.
@@ -64,7 +68,7 @@ fn place(summary: &Summary, index: u64) -> usize {
     summary.symptr as usize + 18 * index as usize
 }
 
-/// Order: INDEX, AUX, SECTION, NAME.
+/// Order: INDEX, AUX, SECTION, NAME, VISIBILITY.
 fn read_entry(file: &[u8], summary: &Summary, index: u64) -> Result<Symbol, Refusal> {
     if index >= summary.symbols {
         return refuse(INDEX, index);
@@ -82,20 +86,38 @@ fn read_entry(file: &[u8], summary: &Summary, index: u64) -> Result<Symbol, Refu
         Ok(name) => name,
         Err(_) => return refuse(NAME, index),
     };
-    let value = if summary.bits == 32 {
-        number(file, at + 8, 4)
-    } else {
-        number(file, at, 8)
-    };
+    let kind = number(file, at + 14, 2);
+    let class = number(file, at + 16, 1);
+    let visibility = read_visibility(file, summary, class, kind);
+    if visibility > Some(4) {
+        return refuse(VISIBILITY, index);
+    }
     Ok(Symbol {
         index,
-        value,
+        value: number(file, at + by(summary.bits, 8, 0), by(summary.bits, 4, 8)),
         section,
-        kind: number(file, at + 14, 2),
-        class: number(file, at + 16, 1),
+        kind,
+        class,
         auxiliaries,
         name,
+        visibility,
     })
+}
+
+/// The bits 7000 of a type, where they are a visibility: in XCOFF32, for classes
+/// with a csect, and with version 2 of an auxiliary header that reaches that far.
+fn read_visibility(file: &[u8], summary: &Summary, class: u64, kind: u64) -> Option<u64> {
+    let newer = summary.bits == 32 && summary.opthdr >= 4 && number(file, 22, 2) == 2;
+    if newer && is_csect_class(class) {
+        Some((kind & 0x7000) >> 12)
+    } else {
+        None
+    }
+}
+
+/// Storage classes that carry a csect entry.
+pub fn is_csect_class(class: u64) -> bool {
+    class == 2 || class == 107 || class == 111
 }
 
 /// Why a name offset is bad.
@@ -252,9 +274,18 @@ pub fn csect(file: &[u8], index: u64) -> Result<Csect, Refusal> {
     Ok(found)
 }
 
+/// The smaller index that the LD at `index` names as its container's; none where
+/// it is no such LD.
+pub fn ld_container(file: &[u8], index: u64) -> Option<u64> {
+    let summary = open(file).ok()?;
+    let entry = read_entry(file, &summary, index).ok()?;
+    let found = own_csect(file, &summary, &entry)?;
+    Some(found.length).filter(|&container| found.kind == LD && container < index)
+}
+
 /// The csect entry of `entry`, judged by all rules but that for an LD's container.
 fn own_csect(file: &[u8], summary: &Summary, entry: &Symbol) -> Option<Csect> {
-    if entry.class != 2 && entry.class != 107 && entry.class != 111 {
+    if !is_csect_class(entry.class) {
         return None;
     }
     if entry.auxiliaries == 0 {

@@ -1,3 +1,4 @@
+use Rattle.visibility.specs.Visibility.{isCsectClass}
 use Prim.Native.Nat.{_%_}
 use mathlib.Core.Path.{_≡_}
 use mathlib.Core.Bool.{true}
@@ -5,7 +6,7 @@ use lib.Dec.{ltb}
 use borrow.Author.Tests.{lt-ltb, not-true, not-false}
 use native.Mathlib.Omega.{arith}
 use borrow.Author.Needs.{needs}
-use Rattle.csect.specs.Csect.{typeOf, carriesCsect, isMarked, typedCsect, csectOf}
+use Rattle.csect.specs.Csect.{typeOf, isMarked, typedCsect, csectOf}
 use Rattle.csect.specs.declared.TypeAnswer.the-variants.{Known}
 use Rattle.word.proofs.Test.{found}
 use Rattle.csect.proofs.judge_csect.Statement.{statement}
@@ -15,8 +16,8 @@ use Rattle.csect.proofs.judge_csect.Tie as tie
 known : (c : tie.After-t) → typeOf (c .before .before .before .before .args .a .smtyp % 8) ≡ Known (c .t .given .0 .0)
 known c = found (c .before .before .type-of .ensures) (c .t .given .1)
 
-carried : (c : tie.Else1) → carriesCsect (c .before .before .before .before .before .before .before .args .s .sclass) ≡ true
-carried c = found (c .before .carries-csect .ensures) (not-false _ (c .if1 .left))
+carried : (c : tie.Else1) → isCsectClass (c .before .before .before .before .before .before .before .args .s .sclass) ≡ true
+carried c = found (c .before .is-csect-class .ensures) (not-false _ (c .if1 .left))
 
 present : (c : tie.Else2) → ltb 0 (c .before .before .before .before .before .before .before .before .before .args .s .numaux) ≡ true
 present c = lt-ltb 0 (c .before .before .before .before .before .before .before .before .before .args .s .numaux) (omega arith)
@@ -37,12 +38,12 @@ returns : tie.Need-returns
 unfolding typedCsect
 returns c = rw (found (c .before .before .type-of .ensures) (c .enum-told .given .1))
 
-carries-csect-requires : tie.Need-carries-csect-requires
-carries-csect-requires c κs = search needs
+is-csect-class-requires : tie.Need-is-csect-class-requires
+is-csect-class-requires c κs = search needs
 
 returns-2 : tie.Need-returns-2
 unfolding typedCsect
-returns-2 c = rw (known (c .before .before .before), found (c .before .carries-csect .ensures) (not-true _ (c .if1 .taken)))
+returns-2 c = rw (known (c .before .before .before), found (c .before .is-csect-class .ensures) (not-true _ (c .if1 .taken)))
 
 returns-3 : tie.Need-returns-3
 unfolding typedCsect
@@ -74,7 +75,7 @@ judge-csect-spec =
     enum-known-t
     enum-told
     returns
-    carries-csect-requires
+    is-csect-class-requires
     returns-2
     returns-3
     is-marked-requires

@@ -101,6 +101,9 @@ enum-told-5 c = search needs
 enum-told-6 : tie.Need-enum-told-6
 enum-told-6 c = search needs
 
+enum-known-x-19 : tie.Need-enum-known-x-19
+enum-known-x-19 c = search needs
+
 returns : tie.Need-returns
 returns c = rw (c .enum-told .given .1)
 
@@ -173,6 +176,9 @@ returns-23 c = rw (c .enum-told5 .given .1)
 returns-24 : tie.Need-returns-24
 returns-24 c = rw (c .enum-told6 .given .1)
 
+returns-25 : tie.Need-returns-25
+returns-25 c = rw (c .before .x19 .given .1)
+
 pub item-spec : {M : Type 1} → statement M
 item-spec =
     tie.close
@@ -210,6 +216,7 @@ item-spec =
     enum-known-x-18
     enum-told-5
     enum-told-6
+    enum-known-x-19
     returns
     returns-2
     returns-3
@@ -233,4 +240,5 @@ item-spec =
     returns-21
     returns-22
     returns-23
-    returns-24)
+    returns-24
+    returns-25)

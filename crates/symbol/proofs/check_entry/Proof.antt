@@ -1,7 +1,7 @@
 use borrow.Author.Tests.{not-true, not-false}
 use Rattle.word.proofs.Test.{found}
-use Rattle.symbol.proofs.Checks.{check-aux, check-scnum, check-name, check-none}
 use Rattle.symbol.proofs.Opened.{tables-inside}
+use Rattle.symbol.proofs.Checks.{check-aux, check-scnum, check-name, check-visibility, check-none}
 use borrow.Author.Needs.{needs}
 use Rattle.symbol.proofs.check_entry.Statement.{statement}
 use Rattle.symbol.proofs.check_entry.Tie as tie
@@ -27,8 +27,14 @@ has-name-requires c κs = let s = c .before .before .before .before .before .bef
 returns-3 : tie.Need-returns-3
 returns-3 c = check-name _ _ _ _ (found (c .before .before .before .before .before .ends-past .ensures) (c .before .before .before .before .if1 .left)) (found (c .before .before .before .is-section .ensures) (not-false _ (c .before .before .if2 .left))) (c .before .before .before .before .before .before .before .before .pre .0) (found (c .before .has-name .ensures) (not-true _ (c .if3 .taken)))
 
+is-unknown-requires : tie.Need-is-unknown-requires
+is-unknown-requires c κs = search needs
+
 returns-4 : tie.Need-returns-4
-returns-4 c = check-none _ _ _ _ (found (c .before .before .before .before .before .ends-past .ensures) (c .before .before .before .before .if1 .left)) (found (c .before .before .before .is-section .ensures) (not-false _ (c .before .before .if2 .left))) (c .before .before .before .before .before .before .before .before .pre .0) (found (c .before .has-name .ensures) (not-false _ (c .if3 .left)))
+returns-4 c = check-visibility _ _ _ _ (found (c .before .before .before .before .before .before .before .ends-past .ensures) (c .before .before .before .before .before .before .if1 .left)) (found (c .before .before .before .before .before .is-section .ensures) (not-false _ (c .before .before .before .before .if2 .left))) (c .before .before .before .before .before .before .before .before .before .before .pre .0) (found (c .before .before .before .has-name .ensures) (not-false _ (c .before .before .if3 .left))) (found (c .before .is-unknown .ensures) (c .if4 .taken))
+
+returns-5 : tie.Need-returns-5
+returns-5 c = check-none _ _ _ _ (found (c .before .before .before .before .before .before .before .ends-past .ensures) (c .before .before .before .before .before .before .if1 .left)) (found (c .before .before .before .before .before .is-section .ensures) (not-false _ (c .before .before .before .before .if2 .left))) (c .before .before .before .before .before .before .before .before .before .before .pre .0) (found (c .before .before .before .has-name .ensures) (not-false _ (c .before .before .if3 .left))) (found (c .before .is-unknown .ensures) (c .if4 .left))
 
 pub check-entry-spec : {M : Type 1} → statement M
 check-entry-spec =
@@ -41,4 +47,6 @@ check-entry-spec =
     returns-2
     has-name-requires
     returns-3
-    returns-4)
+    is-unknown-requires
+    returns-4
+    returns-5)

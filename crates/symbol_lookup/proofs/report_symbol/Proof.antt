@@ -1,3 +1,4 @@
+use mathlib.Core.Path.{refl}
 use borrow.Author.Needs.{needs}
 use Rattle.symbol_lookup.proofs.report_symbol.Statement.{statement}
 use Rattle.symbol_lookup.proofs.report_symbol.Tie as tie
@@ -17,11 +18,20 @@ report-head-requires-2 c κs = search needs
 scnum-of-requires : tie.Need-scnum-of-requires
 scnum-of-requires c κs = search needs
 
+is-claimed-requires : tie.Need-is-claimed-requires
+is-claimed-requires c κs = search needs
+
+one-if-requires : tie.Need-one-if-requires
+one-if-requires c κs = search needs
+
+bits-of-requires : tie.Need-bits-of-requires
+bits-of-requires c κs = search needs
+
 returns : tie.Need-returns
-returns c = rw (c .before .before .a .given .1, c .report-head .ensures)
+returns c = rw (c .before .before .a .given .1, c .report-head .ensures) refl
 
 returns-2 : tie.Need-returns-2
-returns-2 c = rw (c .before .before .before .a2 .given .1, c .before .report-head2 .ensures, c .scnum-of .ensures)
+returns-2 c = rw (c .before .before .before .before .before .before .a2 .given .1, c .before .before .before .before .report-head2 .ensures, c .before .before .before .scnum-of .ensures, c .before .one-if .ensures, c .before .before .is-claimed .ensures, c .bits-of .ensures) refl
 
 pub report-symbol-spec : {M : Type 1} → statement M
 report-symbol-spec =
@@ -32,5 +42,8 @@ report-symbol-spec =
     enum-known-a-2
     report-head-requires-2
     scnum-of-requires
+    is-claimed-requires
+    one-if-requires
+    bits-of-requires
     returns
     returns-2)

@@ -4,12 +4,13 @@
 //! checks; a step's `stage` is its place in that order, so that of two damages
 //! in one file the one with the lower stage must be given. `ROWS` make whole
 //! cases: symbols, csects, look-ups, plans, buffers and sheets. Those of S-records
-//! are in `records`, those of debugger names in `debug`.
+//! are in `records`, those of debugger names in `debug`, those of visibilities in
+//! `visibility`.
 
 use super::make::{self, top, Aux, Field, Head, Made, Part, Wish};
 use super::plans::{buffers, fitting_plan, past_end, reveal_module, reveal_open};
 use super::rng::Rng;
-use super::{debug, records, Op};
+use super::{debug, records, visibility, Op};
 use crate::bytes::put;
 use crate::opening::{
     BSS, DATA, DELETED, DWARF, INFO, KINDS, LOADER as LOADER_KIND, OVRFLO, TBSS, TDATA, TEXT,
@@ -1494,12 +1495,15 @@ pub fn records_count() -> usize {
 
 /// How many damages there are in all.
 pub fn count() -> usize {
-    records_count() + debug::ROWS.len()
+    records_count() + debug::ROWS.len() + visibility::ROWS.len()
 }
 
 /// The rows in their order: document 01, then the requests.
 pub fn rows() -> impl Iterator<Item = &'static Row> {
-    ROWS.iter().chain(records::ROWS).chain(debug::ROWS)
+    ROWS.iter()
+        .chain(records::ROWS)
+        .chain(debug::ROWS)
+        .chain(visibility::ROWS)
 }
 
 /// The names of all damages.
@@ -1762,7 +1766,7 @@ fn below_80(made: &mut Made, index: u64) {
     made.set_class(index, u64::from(class & 0x7F));
 }
 
-fn csect_where(made: &Made, rng: &mut Rng, kind: Option<u64>) -> Option<u64> {
+pub(super) fn csect_where(made: &Made, rng: &mut Rng, kind: Option<u64>) -> Option<u64> {
     let mut all = Vec::new();
     for symbol in &made.symbols {
         if symbol.csect.is_some() && (kind.is_none() || symbol.csect == kind) {
@@ -1776,7 +1780,7 @@ fn csect_where(made: &Made, rng: &mut Rng, kind: Option<u64>) -> Option<u64> {
 }
 
 /// Where the csect auxiliary of the entry at `index` lies.
-fn csect_at(made: &Made, index: u64) -> usize {
+pub(super) fn csect_at(made: &Made, index: u64) -> usize {
     let auxiliaries = u64::from(made.bytes[made.symbol_at(index) + 17]);
     made.symbol_at(index + auxiliaries)
 }

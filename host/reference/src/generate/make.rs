@@ -11,6 +11,7 @@ mod places;
 mod relocations;
 mod sections;
 mod symbol_table;
+mod version;
 
 pub use crate::bytes::top;
 pub use debug::DEBUG_CLASSES;
@@ -28,6 +29,7 @@ use layout::Layout;
 use loader_section::loader_section;
 use sections::{module_kinds, module_pieces, object_pieces, Numbers};
 use symbol_table::symbol_table;
+use version::version;
 
 /// What a module or object should have; the rest is left to chance.
 #[derive(Clone, Default)]
@@ -58,6 +60,8 @@ pub struct Wish {
     pub without: Option<u64>,
     /// Just one debug section with raw data, where there is room for one.
     pub debug: bool,
+    /// The auxiliary header's version, where it is long enough.
+    pub version: Option<u64>,
 }
 
 /// A valid module.
@@ -68,7 +72,7 @@ pub fn module(rng: &mut Rng, wish: &Wish) -> Made {
     let numbers = Numbers::of(&kinds);
     let loader = loader_section(rng, bits, wish, &numbers, &layout);
     let mut pieces = module_pieces(rng, bits, &kinds, &layout, &loader.bytes);
-    let aux = aux_header(rng, bits, wish, &numbers, &layout);
+    let mut aux = aux_header(rng, bits, wish, &numbers, &layout);
     let mut symbols = if wish.rich || rng.chance(60) {
         Some(symbol_table(rng, bits, kinds.len() as u64, wish))
     } else {
@@ -76,6 +80,7 @@ pub fn module(rng: &mut Rng, wish: &Wish) -> Made {
     };
     let side = &mut rng.aside();
     let debug = debug_section(side, bits, wish, &mut pieces, symbols.as_mut());
+    version(side, bits, wish, &mut aux, symbols.as_mut());
     let mut made = assemble(rng, side, bits, aux, pieces, symbols, wish.symbols_last);
     made.text = numbers.text;
     made.data = numbers.data;
@@ -107,7 +112,7 @@ pub fn object(rng: &mut Rng, wish: &Wish) -> Made {
         Some(opthdr) => opthdr,
         None => rng.pick(&[0, 0, 0, 4, 28, 28, by(bits, 72, 110), 130]),
     };
-    let aux = rng.bytes(opthdr);
+    let mut aux = rng.bytes(opthdr);
     let mut symbols = if wish.rich || rng.chance(85) {
         Some(symbol_table(rng, bits, count, wish))
     } else {
@@ -115,6 +120,7 @@ pub fn object(rng: &mut Rng, wish: &Wish) -> Made {
     };
     let side = &mut rng.aside();
     let debug = debug_section(side, bits, wish, &mut pieces, symbols.as_mut());
+    version(side, bits, wish, &mut aux, symbols.as_mut());
     let mut made = assemble(rng, side, bits, aux, pieces, symbols, wish.symbols_last);
     made.record_debug(debug);
     made

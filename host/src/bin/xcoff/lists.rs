@@ -6,7 +6,7 @@ use crate::files;
 use crate::listing::{hex, names, number, word, Cell, Column, Listing};
 use crate::output::{print, refused};
 use crate::problem::Problem;
-use crate::words::{class_word, kind_word, mapping_word, section_word};
+use crate::words::{class_word, kind_word, mapping_word, section_word, visibility_word};
 use std::io;
 use xcoff::{
     Anchor, Csect, CsectType, Format, Image, LoaderRow, Module, Opened, Part, Relocation, Section,
@@ -102,6 +102,7 @@ fn symbol_columns(format: Format, table: &SymbolTable) -> Vec<Column> {
         hex("value", digits(format)),
         number("section", 32),
         hex("type", 4),
+        word("visibility", 9),
         word("class", 7),
         number("aux", 255),
         word("csect", 3),
@@ -123,6 +124,9 @@ fn symbol_row(list: &mut Listing, row: &SymbolRow) -> io::Result<()> {
         Cell::Hex(s.value),
         Cell::Named(s.scnum, section_word(s.scnum)),
         Cell::Hex(s.ntype),
+        s.visibility.map_or(Cell::Nothing, |v| {
+            Cell::Named(v as i64, Some(visibility_word(v)))
+        }),
         Cell::Named(s.sclass as i64, class_word(s.sclass)),
         Cell::Number(s.numaux),
         csect_cell(row),

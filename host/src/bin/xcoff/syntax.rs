@@ -246,12 +246,14 @@ Lists the symbols in the order of the table. Symbols of class EXT, HIDEXT and
 WEAKEXT have a csect: its type (ER external, SD section, LD label, CM common),
 the log 2 of its alignment, its mapping class, its length in bytes, or of a label
 the index of the csect it lies within. 'bad' is a csect that is refused
-(12 CSECT). Where an entry is refused, those before it are listed and the
-refusal follows, with exit status 1.
+(12 CSECT). In an XCOFF32 file of auxiliary version 2 the type of such a symbol
+has a visibility: none, internal, hidden, protected or exported; '-' where no
+visibility is claimed. Where an entry is refused, those before it are listed and
+the refusal follows, with exit status 1.
 
   xcoff symbols diag.xcoff
 
---json  one object a line
+--json  one object a line; 'visibility' is a number, 0 to 4, or null
 ";
 
 const MODULE: &str = "\

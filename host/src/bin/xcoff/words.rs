@@ -1,6 +1,6 @@
 //! Words for numbers of the format, as the public XCOFF description has them.
 
-use xcoff::Kind;
+use xcoff::{Kind, Visibility};
 
 pub fn kind_word(kind: Kind) -> &'static str {
     match kind {
@@ -28,6 +28,16 @@ pub fn section_word(scnum: i64) -> Option<&'static str> {
         -1 => Some("abs"),
         -2 => Some("debug"),
         _ => None,
+    }
+}
+
+pub fn visibility_word(visibility: Visibility) -> &'static str {
+    match visibility {
+        Visibility::None => "none",
+        Visibility::Internal => "internal",
+        Visibility::Hidden => "hidden",
+        Visibility::Protected => "protected",
+        Visibility::Exported => "exported",
     }
 }
 

@@ -2,7 +2,7 @@
 
 use crate::json::Json;
 use reference::bytes::{by, number};
-use reference::symbols::is_debug_class;
+use reference::symbols::{is_csect_class, is_debug_class};
 use reference::{open, Summary};
 
 /// Whether no later request changes the answer of this case.
@@ -13,7 +13,10 @@ pub fn stands(case: &Json, file: &[u8]) -> bool {
         Ok(summary) if on_symbols => summary,
         _ => return true,
     };
-    requests.contains(&1) || !any_entry(file, &summary, has_debug_name)
+    let names_stand = requests.contains(&1) || !any_entry(file, &summary, has_debug_name);
+    let newer = summary.bits == 32 && summary.opthdr >= 4 && number(file, 22, 2) == 2;
+    let types_stand = requests.contains(&9) || !newer || !any_entry(file, &summary, has_csect);
+    names_stand && types_stand
 }
 
 /// Whether some entry, auxiliaries read as entries included, is such a one.
@@ -24,6 +27,11 @@ fn any_entry(file: &[u8], summary: &Summary, is_such: fn(&[u8], u64) -> bool) ->
     let start = summary.symptr as usize;
     let table = &file[start..start + 18 * summary.symbols as usize];
     table.chunks(18).any(|entry| is_such(entry, summary.bits))
+}
+
+/// Request 9: the class is one whose type may have a visibility.
+fn has_csect(entry: &[u8], _bits: u64) -> bool {
+    is_csect_class(number(entry, 16, 1))
 }
 
 /// Request 1: the name is by an offset into the debug section.

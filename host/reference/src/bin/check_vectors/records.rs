@@ -72,6 +72,7 @@ pub fn symbol_json(file: &[u8], entry: &Symbol) -> Json {
         ("type", num(entry.kind)),
         ("sclass", num(entry.class)),
         ("numaux", num(entry.auxiliaries)),
+        ("visibility", entry.visibility.map_or(Json::Null, num)),
     ])
 }
 

@@ -239,6 +239,14 @@ impl Made {
         Field { at: 16, length: 2 }
     }
 
+    /// The version of the auxiliary header.
+    pub fn version_field(&self) -> Field {
+        Field {
+            at: self.header() + 2,
+            length: 2,
+        }
+    }
+
     pub fn section_at(&self, n: u64) -> usize {
         self.header() + self.opthdr + (n as usize - 1) * by(self.bits, 40, 72)
     }
@@ -384,6 +392,9 @@ impl Made {
         self.fields.push(self.nsyms_field());
         self.fields.push(self.opthdr_field());
         self.record_row(18, &[(0, 2)]);
+        if self.opthdr >= 4 {
+            self.fields.push(self.version_field());
+        }
     }
 
     /// Nothing where the auxiliary header is too short for a module.

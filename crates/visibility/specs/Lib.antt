@@ -1,0 +1,2 @@
+-- What the contracts of `visibility` cite.
+pub mod Visibility
