@@ -27,8 +27,8 @@ use refusal::Verdict;
 use visibility::Visibility;
 
 // All that entries and their names are judged by: where symbols and strings lie in an opened file, one past the last zero of
-// the strings, the debug section, and whether types may have a visibility. Exactly the offsets below `ends` have a zero at or after them, so a walk judges each name
-// by comparisons and stays linear in the file.
+// the strings, the debug section, and whether types may have a visibility. Exactly the offsets below `ends` have a zero at or
+// after them, so a walk judges each name by comparisons and stays linear in the file.
 pub struct Tables {
     pub format: Format,
     pub nscns: u64,

@@ -301,7 +301,7 @@ pub extern "C" fn xcoff_read_records(
     refusal::report_head(srecord::read_records(file, addresses, list, records, text, data))
 }
 
-// Lists the symbols that the walk visits: a row of 13 numbers for each.
+// Lists the symbols that the walk visits: a row of 15 numbers for each.
 #[no_mangle]
 pub extern "C" fn xcoff_symbol_table(file: &[u8], rows: &mut [u64]) -> WalkReport
     ensures answer { λ r. ⌜ r ≡ reportOfWalk (symbolTable (now (file .entry)) (length (now (rows .entry)))) ⌝ }
