@@ -28,10 +28,10 @@ static void *lend(uint64_t count, size_t size)
     return p;
 }
 
-static void accept(const char *what, uint64_t number, uint64_t item)
+static void accept(const char *what, uint64_t number, uint64_t item, uint64_t offset)
 {
     if (number != 0) {
-        fprintf(stderr, "%s: refused %" PRIu64 " %" PRIu64 "\n", what, number, item);
+        fprintf(stderr, "%s: refused %" PRIu64 " %" PRIu64 " %" PRIu64 "\n", what, number, item, offset);
         exit(1);
     }
 }
@@ -52,7 +52,7 @@ static uint64_t *recorded(size_t length, uint64_t symbols)
     xcoff_loader_symbol_row *rows = lend(symbols, sizeof *rows);
     uint64_t *list = lend(symbols, sizeof *list);
     xcoff_verdict v = xcoff_loader_symbol_table(file, length, (uint64_t *)rows, numbers);
-    accept("loader symbols", v.number, v.item);
+    accept("loader symbols", v.number, v.item, v.offset);
     for (uint64_t k = 0; k < symbols; k++) {
         list[k] = rows[k].value;
         if ((rows[k].smtype & 0x40) && rows[k].ifile != 0)
@@ -98,13 +98,13 @@ int main(int count, char **words)
     size_t length = load(words[1]);
 
     xcoff_module_answer m = xcoff_module(file, length);
-    accept(words[1], m.number, m.item);
+    accept(words[1], m.number, m.item, m.offset);
     uint64_t *list = recorded(length, m.symbols);
     uint8_t *text = lend(m.text.size, 1);
     uint8_t *data = lend(m.image, 1);
     xcoff_call_answer a = xcoff_build(file, length, text_address, data_address, list, m.symbols, text, m.text.size, data,
                                       m.image);
-    accept("plan", a.number, a.item);
+    accept("plan", a.number, a.item, a.offset);
     if (a.has_entry)
         printf("entry at %" PRIx64 "\n", a.entry);
     save(words[4], text, m.text.size);

@@ -17,8 +17,9 @@
  * file. What a function writes into is not `const`, and its comment says what it holds afterwards; a refusal leaves it
  * as it was. Lent memory of length 0 may have a null pointer.
  *
- * Every answer starts with `number` and `item`. Number 0: accepted. Otherwise the call is refused, the number says why,
- * the item what it is about, and every other field is 0, but for the counts of xcoff_replay.
+ * Every answer starts with `number`, `item` and `offset`. Number 0: accepted, with item 0 and offset 0. Otherwise the
+ * call is refused, the number says why, the item what it is about, the offset where that is in the file (see below), and
+ * every other field is 0, but for the counts of xcoff_replay.
  *
  *   number       why                                                       item
  *    1 SHORT     file or header area ends early                            0
@@ -61,10 +62,23 @@
  *   24 CLASH     the text and data images share an address                 0
  *   30 VISIBILITY  a symbol's type claims a visibility of 5 to 7           index
  *
+ * The offset of a refusal is that of the first byte, in the file, of what its item names:
+ *
+ *   the section header       4 KIND, 6 ADDRESS; 5 BOUNDS and 14 THREAD with a section
+ *   the symbol table entry   9 AUX, 10 NAME, 11 SECTION, 12 CSECT, 30 VISIBILITY
+ *   the string table         7 STRINGS
+ *   the loader section       15 LOADER; 3 LIMIT with item 2 or 3 of a module
+ *   the loader symbol        16 LSYM
+ *   the relocation entry     17 LREL, 18 OVERLAP; 14 THREAD with an entry
+ *
+ * and 0 for every other: BOUNDS with item 0, the other limits, what is about the module as a whole, a plan, a sheet, lent
+ * memory, records, or a number asked for. A header or entry lies whole in the file. A loader section may be empty: its
+ * offset is then at most the file's length, and 0 where it has no raw data.
+ *
  * Sections are numbered from 1, symbols from 0, loader symbols from 3 (0, 1 and 2 stand for text, data and bss), import
  * ids from 0. An index may be any number: INDEX is the answer where there is no such thing.
  *
- * Names are not copied: the answer is the offset and the length of the name in the file, without a closing zero. A name
+ * Names are not copied: the answer is the start and the length of the name in the file, without a closing zero. A name
  * may be empty, and it may hold any byte but zero. What follows it in the file need not be a zero.
  */
 #ifndef XCOFF_H
@@ -81,6 +95,7 @@ extern "C" {
 typedef struct xcoff_open_answer {
     uint64_t number;
     uint64_t item;
+    uint64_t offset;
     uint64_t bits;      /* 32 or 64 */
     uint64_t sections;
     uint64_t symbols;   /* entries of the symbol table, auxiliary ones included */
@@ -92,6 +107,7 @@ typedef struct xcoff_open_answer {
 typedef struct xcoff_section_answer {
     uint64_t number;
     uint64_t item;
+    uint64_t offset;
     uint64_t paddr;     /* addresses, of the card's memory */
     uint64_t vaddr;
     uint64_t size;
@@ -101,11 +117,12 @@ typedef struct xcoff_section_answer {
     uint64_t raw;       /* 1: there is raw data, all of it inside the file */
 } xcoff_section_answer;
 
-/* A name or string: file + offset, length bytes, all of them inside the file. */
+/* A name or string: file + start, length bytes, all of them inside the file. */
 typedef struct xcoff_name_answer {
     uint64_t number;
     uint64_t item;
-    uint64_t offset;
+    uint64_t offset;    /* of a refusal, as in every answer */
+    uint64_t start;     /* of the name */
     uint64_t length;
 } xcoff_name_answer;
 
@@ -113,6 +130,7 @@ typedef struct xcoff_name_answer {
 typedef struct xcoff_symbol_answer {
     uint64_t number;
     uint64_t item;
+    uint64_t offset;
     uint64_t value;
     int64_t scnum;      /* section; 0 undefined, -1 absolute, -2 debugging */
     uint64_t type;      /* all of it, the bits of a visibility too */
@@ -126,12 +144,14 @@ typedef struct xcoff_symbol_answer {
 typedef struct xcoff_refusal {
     uint64_t number;
     uint64_t item;
+    uint64_t offset;
 } xcoff_refusal;
 
 /* A walk over the symbol table. */
 typedef struct xcoff_walk_answer {
     uint64_t number;
     uint64_t item;
+    uint64_t offset;
     uint64_t visited;       /* symbols that were read */
     uint64_t end;           /* index where the walk ended */
     xcoff_refusal cause;    /* why the symbol there is refused; 0 at the table's end */
@@ -141,6 +161,7 @@ typedef struct xcoff_walk_answer {
 typedef struct xcoff_csect_answer {
     uint64_t number;
     uint64_t item;
+    uint64_t offset;
     uint64_t type;      /* 0 ER, 1 SD, 2 LD, 3 CM */
     uint64_t align;     /* log 2 of the alignment */
     uint64_t smclas;    /* storage mapping class */
@@ -162,6 +183,7 @@ typedef struct xcoff_anchor {
 typedef struct xcoff_module_answer {
     uint64_t number;
     uint64_t item;
+    uint64_t offset;
     uint64_t bits;          /* 32 or 64 */
     xcoff_part text;
     xcoff_part data;
@@ -179,6 +201,7 @@ typedef struct xcoff_module_answer {
 typedef struct xcoff_loader_symbol_answer {
     uint64_t number;
     uint64_t item;
+    uint64_t offset;
     uint64_t value;
     uint64_t scnum;     /* section; 0 for an import */
     uint64_t smtype;    /* bit 40 hex: imported */
@@ -223,6 +246,7 @@ xcoff_name_answer xcoff_import_member(const uint8_t *file, size_t length, uint64
 typedef struct xcoff_sheet_answer {
     uint64_t number;
     uint64_t item;
+    uint64_t offset;
     uint64_t text;
     uint64_t data;
     uint64_t count;
@@ -231,12 +255,14 @@ typedef struct xcoff_sheet_answer {
 typedef struct xcoff_verdict {
     uint64_t number;
     uint64_t item;
+    uint64_t offset;
 } xcoff_verdict;
 
 /* The entry and TOC addresses in the plan that a call reached; has_entry and has_toc are 1 where there is one. */
 typedef struct xcoff_call_answer {
     uint64_t number;
     uint64_t item;
+    uint64_t offset;
     uint64_t has_entry;
     uint64_t entry;
     uint64_t has_toc;
@@ -282,6 +308,7 @@ xcoff_call_answer xcoff_move(const uint8_t *file, size_t length, uint64_t from_t
 typedef struct xcoff_replay_answer {
     uint64_t number;
     uint64_t item;
+    uint64_t offset;
     uint64_t has_entry;
     uint64_t entry;
     uint64_t has_toc;
@@ -301,6 +328,7 @@ xcoff_replay_answer xcoff_replay(const uint8_t *file, size_t length, const uint6
 typedef struct xcoff_length_answer {
     uint64_t number;
     uint64_t item;
+    uint64_t offset;
     uint64_t length;
 } xcoff_length_answer;
 

@@ -180,6 +180,8 @@ impl Commands {
         };
         assert_eq!(status == 0, said.is_empty(), "{line}: {said}");
         assert!(status == 0 || said.starts_with("xcoff: ") && said.ends_with('\n'), "{line}: {said}");
+        // What stands where a refusal points is shown below it.
+        assert!(offset_of(&said).unwrap_or(0) == 0 || said.lines().count() > 1, "{line}: {said}");
         let mut printed = vec![0; self.printed.metadata().unwrap().len() as usize];
         self.printed.read_exact_at(&mut printed, 0).unwrap();
         let plain = |b: &u8| *b == b'\n' || (0x20..0x7f).contains(b);
@@ -190,4 +192,10 @@ impl Commands {
         }
         status
     }
+}
+
+/// The third number of a refusal.
+fn offset_of(said: &str) -> Option<u64> {
+    let numbers = said.split(": refused ").nth(1)?.split(':').next()?;
+    numbers.split(' ').nth(2)?.parse().ok()
 }

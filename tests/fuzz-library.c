@@ -47,20 +47,25 @@ static void note(const void *bytes, size_t n)
 #define NOTE(answer) note(&(answer), sizeof(answer))
 #define SAME(a, b) (memcmp(&(a), &(b), sizeof(a)) == 0)
 
-/* A refusal has a known number, and every other field is 0. */
+static const uint8_t *file;
+static size_t length;
+
+/* A refusal has a known number, its offset is one of the file or its end, and every other field is 0. */
 static void refusal(const void *answer, size_t size)
 {
-    uint64_t field;
+    uint64_t head[3];
     size_t i;
-    memcpy(&field, answer, sizeof field);
-    PROMISE(field <= 24 || field == 30);
-    for (i = 16; field != 0 && i < size; i++)
+    memcpy(head, answer, sizeof head);
+    PROMISE(head[0] <= 24 || head[0] == 30);
+    PROMISE(head[0] == 0 ? head[1] == 0 && head[2] == 0 : head[2] <= length);
+    for (i = sizeof head; head[0] != 0 && i < size; i++)
         PROMISE(((const uint8_t *)answer)[i] == 0);
     note(answer, size);
 }
 
 #define ANSWER(answer) refusal(&(answer), sizeof(answer))
-#define REFUSED(answer, n, i) ((answer).number == (n) && (answer).item == (i))
+#define REFUSED(answer, n, i, o) ((answer).number == (n) && (answer).item == (i) && (answer).offset == (o))
+#define REFUSED_AS(answer, other) REFUSED(answer, (other).number, (other).item, (other).offset)
 
 /* ---- guarded memory */
 
@@ -147,17 +152,47 @@ static void untouched(const void *bytes, size_t n)
         PROMISE(memcmp(p + i, made, n - i < sizeof made ? n - i : sizeof made) == 0);
 }
 
-/* ---- the calls */
+/* ---- where things lie in the file */
 
-static const uint8_t *file;
-static size_t length;
+static uint64_t number_at(size_t at, size_t n)
+{
+    uint64_t value = 0;
+    for (; n > 0; n--)
+        value = value << 8 | file[at++];
+    return value;
+}
+
+static int is_64(void)
+{
+    return file[1] == 0xF7;
+}
+
+static uint64_t header_at(uint64_t section)
+{
+    return (is_64() ? 24 : 20) + number_at(16, 2) + (section - 1) * (is_64() ? 72 : 40);
+}
+
+static uint64_t symbol_at(uint64_t i)
+{
+    return number_at(8, is_64() ? 8 : 4) + 18 * i;
+}
+
+/* The offset of a refusal of opening. */
+static uint64_t opening_offset(uint64_t number, uint64_t item)
+{
+    if (number == 4 || number == 6 || (number == 5 && item != 0))
+        return header_at(item);
+    return number == 7 ? symbol_at(number_at(is_64() ? 20 : 12, 4)) : 0;
+}
+
+/* ---- the calls */
 
 static void name_inside(xcoff_name_answer n)
 {
     ANSWER(n);
     if (n.number == 0) {
-        PROMISE(n.offset <= length && n.length <= length - n.offset);
-        PROMISE(memchr(file + n.offset, 0, n.length) == NULL);
+        PROMISE(n.start <= length && n.length <= length - n.start);
+        PROMISE(memchr(file + n.start, 0, n.length) == NULL);
     }
 }
 
@@ -167,7 +202,7 @@ static xcoff_open_answer headers(void)
     uint64_t i, n;
     step = "headers";
     ANSWER(o);
-    PROMISE(o.number <= 7);
+    PROMISE(o.number <= 7 && o.offset == opening_offset(o.number, o.item));
     PROMISE(o.number != 0 || (o.bits == 32 || o.bits == 64));
     PROMISE(o.sections <= 32);
     for (i = 0; i < 36; i++) {
@@ -178,11 +213,11 @@ static xcoff_open_answer headers(void)
         name = xcoff_section_name(file, length, n);
         ANSWER(s);
         name_inside(name);
-        PROMISE(s.number == name.number && s.item == name.item);
+        PROMISE(REFUSED_AS(s, name));
         if (o.number != 0)
-            PROMISE(REFUSED(s, o.number, o.item));
+            PROMISE(REFUSED_AS(s, o));
         else if (n == 0 || n > o.sections)
-            PROMISE(REFUSED(s, 8, n));
+            PROMISE(REFUSED(s, 8, n, 0));
         else
             PROMISE(s.number == 0 && name.length <= 8 && s.raw <= 1);
         if (s.raw == 1)
@@ -209,15 +244,17 @@ static void one_symbol(xcoff_open_answer o, uint64_t i, const xcoff_symbol_row *
     ANSWER(y);
     name_inside(n);
     ANSWER(c);
-    PROMISE(y.number == n.number && y.item == n.item);
+    PROMISE(REFUSED_AS(y, n));
     if (o.number != 0)
-        PROMISE(REFUSED(y, o.number, o.item) && REFUSED(c, o.number, o.item));
+        PROMISE(REFUSED_AS(y, o) && REFUSED_AS(c, o));
     else if (i >= o.symbols)
-        PROMISE(REFUSED(y, 8, i) && REFUSED(c, 8, i));
+        PROMISE(REFUSED(y, 8, i, 0) && REFUSED(c, 8, i, 0));
     else if (y.number != 0)
-        PROMISE(((y.number >= 9 && y.number <= 11) || y.number == 30) && y.item == i && REFUSED(c, y.number, i));
+        PROMISE(((y.number >= 9 && y.number <= 11) || y.number == 30) && REFUSED(y, y.number, i, symbol_at(i)) && REFUSED_AS(c, y));
     else
-        PROMISE(y.numaux < o.symbols - i && y.scnum >= -2 && y.scnum <= (int64_t)o.sections && (c.number == 0 || REFUSED(c, 12, i)));
+        PROMISE(y.numaux < o.symbols - i && y.scnum >= -2 && y.scnum <= (int64_t)o.sections);
+    if (y.number == 0)
+        PROMISE(c.number == 0 || REFUSED(c, 12, i, symbol_at(i)));
     claimed(o, y);
     if (row != NULL) {
         const uint8_t *zero = memchr(file + row->name, 0, row->room);
@@ -226,7 +263,7 @@ static void one_symbol(xcoff_open_answer o, uint64_t i, const xcoff_symbol_row *
         PROMISE(row->sclass == y.sclass && row->numaux == y.numaux);
         PROMISE(row->has_visibility == y.has_visibility && row->visibility == y.visibility);
         PROMISE(row->csect == c.number && row->csect_type == c.type && row->align == c.align && row->smclas == c.smclas);
-        PROMISE(row->length == c.length && row->name == n.offset && name_length == n.length);
+        PROMISE(row->length == c.length && row->name == n.start && name_length == n.length);
     }
 }
 
@@ -239,7 +276,7 @@ static void symbols(xcoff_open_answer o)
     size_t n;
     step = "symbols";
     ANSWER(w);
-    PROMISE(w.number == o.number && w.item == o.item);
+    PROMISE(REFUSED_AS(w, o));
     for (i = 0; i < 8; i++)
         one_symbol(o, i < 3 ? i : i < 5 ? o.symbols - (i - 3) : any_number(), NULL);
     n = 15 * w.visited;
@@ -247,7 +284,7 @@ static void symbols(xcoff_open_answer o)
     fill(numbers, 8 * (n + 1));
     t = xcoff_symbol_table(file, length, numbers, n + 1);
     ANSWER(t);
-    PROMISE(o.number != 0 ? REFUSED(t, o.number, o.item) : REFUSED(t, 20, 0));
+    PROMISE(o.number != 0 ? REFUSED_AS(t, o) : REFUSED(t, 20, 0, 0));
     untouched(numbers, 8 * (n + 1));
     if (o.number != 0)
         return;
@@ -256,7 +293,7 @@ static void symbols(xcoff_open_answer o)
         numbers = lend(rows_area, 8 * (n - 1));
         fill(numbers, 8 * (n - 1));
         t = xcoff_symbol_table(file, length, numbers, n - 1);
-        PROMISE(REFUSED(t, 20, 0));
+        PROMISE(REFUSED(t, 20, 0, 0));
         untouched(numbers, 8 * (n - 1));
     }
     numbers = lend(rows_area, 8 * n);
@@ -274,7 +311,7 @@ static void symbols(xcoff_open_answer o)
     PROMISE(next == w.end);
     if (w.cause.number != 0) {
         xcoff_symbol_answer y = xcoff_symbol(file, length, w.end);
-        PROMISE(REFUSED(y, w.cause.number, w.cause.item));
+        PROMISE(REFUSED_AS(y, w.cause));
     }
 }
 
@@ -293,9 +330,9 @@ static const uint64_t *table(xcoff_module_answer m, xcoff_verdict (*list)(const 
         v = list(file, length, numbers, room);
         ANSWER(v);
         if (m.number != 0)
-            PROMISE(REFUSED(v, m.number, m.item));
+            PROMISE(REFUSED_AS(v, m));
         else
-            PROMISE(by == 0 ? REFUSED(v, 0, 0) : REFUSED(v, 20, 0));
+            PROMISE(by == 0 ? REFUSED(v, 0, 0, 0) : REFUSED(v, 20, 0, 0));
         if (v.number != 0)
             untouched(numbers, 8 * room);
     }
@@ -315,17 +352,17 @@ static void one_loader_symbol(xcoff_module_answer m, uint64_t i, const xcoff_loa
     xcoff_name_answer n = xcoff_loader_symbol_name(file, length, i);
     ANSWER(y);
     name_inside(n);
-    PROMISE(y.number == n.number && y.item == n.item);
+    PROMISE(REFUSED_AS(y, n));
     if (m.number != 0)
-        PROMISE(REFUSED(y, m.number, m.item));
+        PROMISE(REFUSED_AS(y, m));
     else if (i < 3 || i - 3 >= m.symbols)
-        PROMISE(REFUSED(y, 8, i));
+        PROMISE(REFUSED(y, 8, i, 0));
     else
         PROMISE(y.number == 0);
     if (row != NULL) {
         PROMISE(row->index == i && row->value == y.value && row->scnum == y.scnum && row->smtype == y.smtype);
         PROMISE(row->smclas == y.smclas && row->ifile == y.ifile && row->parm == y.parm);
-        PROMISE(row->name == n.offset && row->name_length == n.length);
+        PROMISE(row->name == n.start && row->name_length == n.length);
     }
 }
 
@@ -336,17 +373,17 @@ static void one_import(xcoff_module_answer m, uint64_t i, const xcoff_import_row
     name_inside(path);
     name_inside(base);
     name_inside(member);
-    PROMISE(path.number == base.number && path.number == member.number);
+    PROMISE(REFUSED_AS(path, base) && REFUSED_AS(path, member));
     if (m.number != 0)
-        PROMISE(REFUSED(path, m.number, m.item));
+        PROMISE(REFUSED_AS(path, m));
     else if (i >= m.ids)
-        PROMISE(REFUSED(path, 8, i) && REFUSED(base, 8, i) && REFUSED(member, 8, i));
+        PROMISE(REFUSED(path, 8, i, 0) && REFUSED(base, 8, i, 0) && REFUSED(member, 8, i, 0));
     else
         PROMISE(path.number == 0);
     if (row != NULL) {
-        PROMISE(row->path == path.offset && row->path_length == path.length);
-        PROMISE(row->base == base.offset && row->base_length == base.length);
-        PROMISE(row->member == member.offset && row->member_length == member.length);
+        PROMISE(row->path == path.start && row->path_length == path.length);
+        PROMISE(row->base == base.start && row->base_length == base.length);
+        PROMISE(row->member == member.start && row->member_length == member.length);
     }
 }
 
@@ -387,13 +424,40 @@ static void tables(xcoff_module_answer m)
     }
 }
 
+static uint64_t loader_at(xcoff_open_answer o)
+{
+    uint64_t n;
+    for (n = 1; n <= o.sections; n++) {
+        xcoff_section_answer s = xcoff_section(file, length, n);
+        if (s.flag == 0x1000)
+            return s.scnptr;
+    }
+    return 0;
+}
+
+/* Whether the offset of a module's own refusal is right; of entries, that one at this place lies whole in the file. */
+static int module_offset(xcoff_open_answer o, xcoff_module_answer m)
+{
+    uint64_t entry = m.number == 16 ? 24 : is_64() ? 16 : 12;
+    switch (m.number) {
+    case 3: return m.offset == (m.item == 2 || m.item == 3 ? loader_at(o) : 0);
+    case 6: return m.offset == header_at(m.item);
+    case 13: return m.offset == 0;
+    case 14: return m.offset == header_at(m.item) || m.offset + entry <= length;
+    case 15: return m.offset == loader_at(o);
+    default: return m.offset >= loader_at(o) && m.offset + entry <= length;
+    }
+}
+
 static xcoff_module_answer module(xcoff_open_answer o)
 {
     xcoff_module_answer m = xcoff_module(file, length);
     step = "module";
     ANSWER(m);
     if (o.number != 0)
-        PROMISE(REFUSED(m, o.number, o.item));
+        PROMISE(REFUSED_AS(m, o));
+    else if (m.number != 0)
+        PROMISE(module_offset(o, m));
     if (m.number == 0) {
         PROMISE(m.bits == o.bits && m.symbols <= 4096 && m.relocations <= 4096 && m.image <= 16777216);
         PROMISE(m.text.size <= length && m.data.size <= length && m.image >= m.data.size);
@@ -449,7 +513,7 @@ static void refused_images(xcoff_module_answer m, plan p, size_t tl, size_t dl)
         ANSWER(v);
         PROMISE(b.number != 0 && v.number != 0);
         if (m.number != 0)
-            PROMISE(REFUSED(b, m.number, m.item) && REFUSED(v, m.number, m.item));
+            PROMISE(REFUSED_AS(b, m) && REFUSED_AS(v, m));
         else
             PROMISE(b.number == 19 || b.number == 20);
         untouched(text, t);
@@ -524,9 +588,9 @@ static void images(xcoff_module_answer m)
             untouched(text2, tl);
             untouched(data2, dl);
             a = move(other, recorded, text2, tl, data2, dl);
-            PROMISE(REFUSED(a, b.number, b.item));
+            PROMISE(REFUSED_AS(a, b));
             a = move(recorded, other, text2, tl, data2, dl);
-            PROMISE(REFUSED(a, b.number, b.item));
+            PROMISE(REFUSED_AS(a, b));
             untouched(text2, tl);
             untouched(data2, dl);
             continue;
@@ -640,7 +704,7 @@ static void refused_records(plan p, const uint8_t *records, size_t n, size_t tl,
     fill(data, dl);
     v = read_records(p, records, n, text, tl, data, dl);
     ANSWER(v);
-    PROMISE(REFUSED(v, 22, bad));
+    PROMISE(REFUSED(v, 22, bad, 0));
     untouched(text, tl);
     untouched(data, dl);
 }
@@ -675,11 +739,11 @@ static void room_for_records(plan p, const uint8_t *text, size_t tl, const uint8
         xcoff_verdict v;
         fill(records, n + by);
         v = write_records(p, text, tl, data, dl, records, n + by);
-        PROMISE(REFUSED(v, 20, 0));
+        PROMISE(REFUSED(v, 20, 0, 0));
         v = write_records(p, text, tl, data, dl - (dl > 0), records, n + by);
-        PROMISE(dl > 0 ? REFUSED(v, 20, 1) : REFUSED(v, 20, 0));
+        PROMISE(dl > 0 ? REFUSED(v, 20, 1, 0) : REFUSED(v, 20, 0, 0));
         v = read_records(p, records, n + by, NULL, 0, NULL, 0);
-        PROMISE(tl > 0 ? REFUSED(v, 20, 0) : dl > 0 ? REFUSED(v, 20, 1) : v.number == 22);
+        PROMISE(tl > 0 ? REFUSED(v, 20, 0, 0) : dl > 0 ? REFUSED(v, 20, 1, 0) : v.number == 22);
         untouched(records, n + by);
     }
 }
@@ -711,7 +775,7 @@ static void good_records(plan p, uint64_t entry, const uint8_t *text, size_t tl,
 }
 
 /* No plan for records: all three calls say why, and nothing is written. */
-static void no_records(plan p, size_t tl, size_t dl, uint64_t number, uint64_t item)
+static void no_records(plan p, size_t tl, size_t dl, uint64_t number, uint64_t item, uint64_t offset)
 {
     uint8_t *records = lend(records_area, 100), *text = lend(text2_area, tl), *data = lend(data2_area, dl);
     xcoff_length_answer n = records_length(p);
@@ -722,7 +786,7 @@ static void no_records(plan p, size_t tl, size_t dl, uint64_t number, uint64_t i
     w = write_records(p, text, tl, data, dl, records, 100);
     r = read_records(p, records, 100, text, tl, data, dl);
     ANSWER(n);
-    PROMISE(REFUSED(n, number, item) && REFUSED(w, number, item) && REFUSED(r, number, item));
+    PROMISE(REFUSED(n, number, item, offset) && REFUSED_AS(w, n) && REFUSED_AS(r, n));
     untouched(records, 100);
     untouched(text, tl);
     untouched(data, dl);
@@ -758,11 +822,11 @@ static void records_of(xcoff_module_answer m, plan p)
     fill(data, dl);
     b = build(p, text, tl, data, dl);
     if (b.number != 0)
-        no_records(p, tl, dl, b.number, b.item);
+        no_records(p, tl, dl, b.number, b.item, b.offset);
     else if (m.bits == 64)
-        no_records(p, tl, dl, 23, 0);
+        no_records(p, tl, dl, 23, 0, 0);
     else if (share_an_address(p.text, tl, p.data, dl))
-        no_records(p, tl, dl, 24, 0);
+        no_records(p, tl, dl, 24, 0, 0);
     else {
         l = records_length(p);
         ANSWER(l);
@@ -776,7 +840,7 @@ static void records(xcoff_module_answer m)
 {
     plan p = records_plan(m, 0);
     if (m.number != 0) {
-        no_records(p, 100, 60, m.number, m.item);
+        no_records(p, 100, 60, m.number, m.item, m.offset);
         return;
     }
     if (m.text.size + m.image >= HEAVY)
@@ -795,16 +859,16 @@ static void sheets(void)
     size_t n, k;
     step = "sheets";
     ANSWER(h);
-    PROMISE(h.count <= 4096);
+    PROMISE(h.count <= 4096 && h.offset == 0);
     for (k = 0; k < 2; k++) {
         list = lend(list_area, 8 * (h.count + k));
         fill(list, 8 * (h.count + k));
         r = xcoff_read_sheet(file, length, list, h.count + k);
         ANSWER(r);
         if (h.number != 0)
-            PROMISE(REFUSED(r, h.number, h.item));
+            PROMISE(REFUSED_AS(r, h));
         else
-            PROMISE(k == 0 ? SAME(r, h) : REFUSED(r, 20, 2));
+            PROMISE(k == 0 ? SAME(r, h) : REFUSED(r, 20, 2, 0));
         if (r.number != 0)
             untouched(list, 8 * (h.count + k));
     }
@@ -823,7 +887,7 @@ static void sheets(void)
     sheet = lend(sheet_area, 20 + 8 * n + 1);
     fill(sheet, 20 + 8 * n + 1);
     v = xcoff_write_sheet(state, ~state, list, n, sheet, 20 + 8 * n + 1);
-    PROMISE(REFUSED(v, 20, 0));
+    PROMISE(REFUSED(v, 20, 0, 0));
     untouched(sheet, 20 + 8 * n + 1);
     sheet = lend(sheet_area, 20 + 8 * n);
     v = xcoff_write_sheet(state, ~state, list, n, sheet, 20 + 8 * n);
@@ -866,7 +930,7 @@ static void input_as_calls(xcoff_module_answer m)
     PROMISE(r.calls != 0 || r.number == 0);
     PROMISE(r.number == 0 || (r.accepted < r.calls && !r.has_entry && !r.entry && !r.has_toc && !r.toc));
     if (m.number != 0) {
-        PROMISE(r.accepted == 0 && (r.calls == 0 || REFUSED(r, m.number, m.item)));
+        PROMISE(r.accepted == 0 && (r.calls == 0 || REFUSED_AS(r, m)));
         untouched(text, tl);
         untouched(data, dl);
     }
@@ -884,8 +948,8 @@ static void nothing(void)
     xcoff_verdict w = xcoff_write_records(NULL, 0, 0, 0, NULL, 0, NULL, 0, NULL, 0, NULL, 0);
     xcoff_verdict r = xcoff_read_records(NULL, 0, 0, 0, NULL, 0, NULL, 0, NULL, 0, NULL, 0);
     step = "nothing";
-    PROMISE(REFUSED(o, 1, 0) && REFUSED(t, 1, 0) && REFUSED(v, 1, 0));
-    PROMISE(REFUSED(l, 1, 0) && REFUSED(w, 1, 0) && REFUSED(r, 1, 0));
+    PROMISE(REFUSED(o, 1, 0, 0) && REFUSED(t, 1, 0, 0) && REFUSED(v, 1, 0, 0));
+    PROMISE(REFUSED(l, 1, 0, 0) && REFUSED(w, 1, 0, 0) && REFUSED(r, 1, 0, 0));
 }
 
 static uint64_t run(const uint8_t *input, size_t n)

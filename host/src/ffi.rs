@@ -3,10 +3,17 @@
 //! Each function takes a slice, which Rust guarantees to be readable and unchanged during the call: that is all the
 //! library asks. A slice is passed as a pointer and a length.
 
+/// What every answer begins with: number 0 where the call is accepted.
 #[repr(C)]
-pub struct Open {
+pub struct Head {
     pub number: u64,
     pub item: u64,
+    pub offset: u64,
+}
+
+#[repr(C)]
+pub struct Open {
+    pub head: Head,
     pub bits: u64,
     pub sections: u64,
     pub symbols: u64,
@@ -16,8 +23,7 @@ pub struct Open {
 
 #[repr(C)]
 pub struct Section {
-    pub number: u64,
-    pub item: u64,
+    pub head: Head,
     pub paddr: u64,
     pub vaddr: u64,
     pub size: u64,
@@ -28,16 +34,14 @@ pub struct Section {
 
 #[repr(C)]
 pub struct Range {
-    pub number: u64,
-    pub item: u64,
-    pub offset: u64,
+    pub head: Head,
+    pub start: u64,
     pub length: u64,
 }
 
 #[repr(C)]
 pub struct Symbol {
-    pub number: u64,
-    pub item: u64,
+    pub head: Head,
     pub value: u64,
     pub scnum: i64,
     pub ntype: u64,
@@ -48,24 +52,16 @@ pub struct Symbol {
 }
 
 #[repr(C)]
-pub struct Cause {
-    pub number: u64,
-    pub item: u64,
-}
-
-#[repr(C)]
 pub struct Walk {
-    pub number: u64,
-    pub item: u64,
+    pub head: Head,
     pub visited: u64,
     pub end: u64,
-    pub cause: Cause,
+    pub cause: Head,
 }
 
 #[repr(C)]
 pub struct Csect {
-    pub number: u64,
-    pub item: u64,
+    pub head: Head,
     pub kind: u64,
     pub align: u64,
     pub smclas: u64,
@@ -87,8 +83,7 @@ pub struct Anchor {
 
 #[repr(C)]
 pub struct Module {
-    pub number: u64,
-    pub item: u64,
+    pub head: Head,
     pub bits: u64,
     pub text: Part,
     pub data: Part,
@@ -104,8 +99,7 @@ pub struct Module {
 
 #[repr(C)]
 pub struct LoaderSymbol {
-    pub number: u64,
-    pub item: u64,
+    pub head: Head,
     pub value: u64,
     pub scnum: u64,
     pub smtype: u64,
@@ -116,8 +110,7 @@ pub struct LoaderSymbol {
 
 #[repr(C)]
 pub struct Sheet {
-    pub number: u64,
-    pub item: u64,
+    pub head: Head,
     pub text: u64,
     pub data: u64,
     pub count: u64,
@@ -125,8 +118,7 @@ pub struct Sheet {
 
 #[repr(C)]
 pub struct Call {
-    pub number: u64,
-    pub item: u64,
+    pub head: Head,
     pub has_entry: u64,
     pub entry: u64,
     pub has_toc: u64,
@@ -143,8 +135,7 @@ pub struct Replay {
 
 #[repr(C)]
 pub struct Length {
-    pub number: u64,
-    pub item: u64,
+    pub head: Head,
     pub length: u64,
 }
 
@@ -171,7 +162,7 @@ extern "C" {
         places: usize,
         sheet: *mut u8,
         length: usize,
-    ) -> Cause;
+    ) -> Head;
     fn xcoff_build(
         file: *const u8,
         length: usize,
@@ -231,7 +222,7 @@ extern "C" {
         data_length: usize,
         records: *mut u8,
         records_length: usize,
-    ) -> Cause;
+    ) -> Head;
     fn xcoff_read_records(
         file: *const u8,
         length: usize,
@@ -245,21 +236,21 @@ extern "C" {
         text_length: usize,
         data: *mut u8,
         data_length: usize,
-    ) -> Cause;
+    ) -> Head;
     fn xcoff_symbol_table(file: *const u8, length: usize, rows: *mut u64, numbers: usize) -> Walk;
     fn xcoff_loader_symbol_table(
         file: *const u8,
         length: usize,
         rows: *mut u64,
         numbers: usize,
-    ) -> Cause;
+    ) -> Head;
     fn xcoff_relocation_table(
         file: *const u8,
         length: usize,
         rows: *mut u64,
         numbers: usize,
-    ) -> Cause;
-    fn xcoff_import_table(file: *const u8, length: usize, rows: *mut u64, numbers: usize) -> Cause;
+    ) -> Head;
+    fn xcoff_import_table(file: *const u8, length: usize, rows: *mut u64, numbers: usize) -> Head;
 }
 
 pub fn open(file: &[u8]) -> Open {
@@ -322,7 +313,7 @@ pub fn read_sheet(sheet: &[u8], list: &mut [u64]) -> Sheet {
     unsafe { xcoff_read_sheet(sheet.as_ptr(), sheet.len(), list.as_mut_ptr(), list.len()) }
 }
 
-pub fn write_sheet(text: u64, data: u64, list: &[u64], sheet: &mut [u8]) -> Cause {
+pub fn write_sheet(text: u64, data: u64, list: &[u64], sheet: &mut [u8]) -> Head {
     unsafe {
         xcoff_write_sheet(
             text,
@@ -416,7 +407,7 @@ pub fn write_records(
     text: &[u8],
     data: &[u8],
     records: &mut [u8],
-) -> Cause {
+) -> Head {
     unsafe {
         xcoff_write_records(
             file.as_ptr(),
@@ -442,7 +433,7 @@ pub fn read_records(
     records: &[u8],
     text: &mut [u8],
     data: &mut [u8],
-) -> Cause {
+) -> Head {
     unsafe {
         xcoff_read_records(
             file.as_ptr(),
@@ -465,14 +456,14 @@ pub fn symbol_table(file: &[u8], rows: &mut [u64]) -> Walk {
     unsafe { xcoff_symbol_table(file.as_ptr(), file.len(), rows.as_mut_ptr(), rows.len()) }
 }
 
-pub fn loader_symbol_table(file: &[u8], rows: &mut [u64]) -> Cause {
+pub fn loader_symbol_table(file: &[u8], rows: &mut [u64]) -> Head {
     unsafe { xcoff_loader_symbol_table(file.as_ptr(), file.len(), rows.as_mut_ptr(), rows.len()) }
 }
 
-pub fn relocation_table(file: &[u8], rows: &mut [u64]) -> Cause {
+pub fn relocation_table(file: &[u8], rows: &mut [u64]) -> Head {
     unsafe { xcoff_relocation_table(file.as_ptr(), file.len(), rows.as_mut_ptr(), rows.len()) }
 }
 
-pub fn import_table(file: &[u8], rows: &mut [u64]) -> Cause {
+pub fn import_table(file: &[u8], rows: &mut [u64]) -> Head {
     unsafe { xcoff_import_table(file.as_ptr(), file.len(), rows.as_mut_ptr(), rows.len()) }
 }

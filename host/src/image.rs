@@ -99,7 +99,7 @@ pub fn replay(file: &[u8], calls: &[Call], text: &mut [u8], data: &mut [u8]) -> 
 /// Reads a plan sheet's two addresses, and its list into exactly as many places. A refusal leaves the list as it was.
 pub fn read_sheet_into(sheet: &[u8], list: &mut [u64]) -> Result<(u64, u64), Refusal> {
     let read = ffi::read_sheet(sheet, list);
-    accepted(read.number, read.item)?;
+    accepted(read.head)?;
     Ok((read.text, read.data))
 }
 
@@ -111,14 +111,14 @@ pub fn write_sheet_into(
     sheet: &mut [u8],
 ) -> Result<(), Refusal> {
     let written = ffi::write_sheet(text, data, list, sheet);
-    accepted(written.number, written.item)
+    accepted(written)
 }
 
 /// Reads a plan sheet.
 pub fn read_sheet(sheet: &[u8]) -> Result<Plan, Refusal> {
-    let head = ffi::sheet_head(sheet);
-    accepted(head.number, head.item)?;
-    let mut list = vec![0; head.count as usize];
+    let answer = ffi::sheet_head(sheet);
+    accepted(answer.head)?;
+    let mut list = vec![0; answer.count as usize];
     let (text, data) = read_sheet_into(sheet, &mut list)?;
     Ok(Plan { text, data, list })
 }
@@ -136,7 +136,7 @@ fn numbers(p: &Plan, script: &mut Vec<u64>) {
 }
 
 fn reached(call: ffi::Call) -> Result<Reached, Refusal> {
-    accepted(call.number, call.item)?;
+    accepted(call.head)?;
     Ok(Reached {
         entry: (call.has_entry == 1).then_some(call.entry),
         toc: (call.has_toc == 1).then_some(call.toc),

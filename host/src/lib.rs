@@ -7,6 +7,7 @@
 #[allow(unsafe_code)]
 mod ffi;
 mod image;
+mod place;
 mod records;
 mod refusal;
 mod tables;
@@ -15,6 +16,7 @@ pub use image::{
     build_images, move_images, read_sheet, read_sheet_into, replay, write_sheet, write_sheet_into,
     Call, Plan, Reached, Replayed,
 };
+pub use place::{places, FieldValue, Place, Value, What};
 pub use records::{read_records, records_length, write_records, write_records_into};
 pub use refusal::Refusal;
 pub use tables::{
@@ -182,7 +184,7 @@ impl LoaderSymbol {
 /// Opens a file: its headers, sections and symbol table are judged.
 pub fn open(file: &[u8]) -> Result<Opened, Refusal> {
     let a = ffi::open(file);
-    accepted(a.number, a.item)?;
+    accepted(a.head)?;
     Ok(Opened {
         format: format_of(a.bits),
         sections: a.sections,
@@ -195,7 +197,7 @@ pub fn open(file: &[u8]) -> Result<Opened, Refusal> {
 /// Section `n`, from 1.
 pub fn section(file: &[u8], n: u64) -> Result<Section, Refusal> {
     let a = ffi::section(file, n);
-    accepted(a.number, a.item)?;
+    accepted(a.head)?;
     Ok(Section {
         kind: kind_of(a.flag),
         paddr: a.paddr,
@@ -213,7 +215,7 @@ pub fn section_name(file: &[u8], n: u64) -> Result<&[u8], Refusal> {
 /// The symbol table entry `i`, from 0. The entry after it is at `i + 1 + numaux`.
 pub fn symbol(file: &[u8], i: u64) -> Result<Symbol, Refusal> {
     let a = ffi::symbol(file, i);
-    accepted(a.number, a.item)?;
+    accepted(a.head)?;
     Ok(Symbol {
         value: a.value,
         scnum: a.scnum,
@@ -237,7 +239,7 @@ pub fn walk(file: &[u8]) -> Result<Walk, Refusal> {
 /// The csect entry of symbol `i`.
 pub fn csect(file: &[u8], i: u64) -> Result<Csect, Refusal> {
     let a = ffi::csect(file, i);
-    accepted(a.number, a.item)?;
+    accepted(a.head)?;
     Ok(Csect {
         kind: csect_type(a.kind),
         align: a.align,
@@ -249,7 +251,7 @@ pub fn csect(file: &[u8], i: u64) -> Result<Csect, Refusal> {
 /// Judges a file as a loadable module, down to its last relocation entry.
 pub fn module(file: &[u8]) -> Result<Module, Refusal> {
     let a = ffi::module(file);
-    accepted(a.number, a.item)?;
+    accepted(a.head)?;
     Ok(Module {
         format: format_of(a.bits),
         text: part(a.text),
@@ -268,7 +270,7 @@ pub fn module(file: &[u8]) -> Result<Module, Refusal> {
 /// Loader symbol `i`, from 3, of a loadable module. Each call judges the whole module.
 pub fn loader_symbol(file: &[u8], i: u64) -> Result<LoaderSymbol, Refusal> {
     let a = ffi::loader_symbol(file, i);
-    accepted(a.number, a.item)?;
+    accepted(a.head)?;
     Ok(LoaderSymbol {
         value: a.value,
         scnum: a.scnum,
@@ -298,25 +300,29 @@ pub fn import_member(file: &[u8], n: u64) -> Result<&[u8], Refusal> {
     part_of(file, ffi::import_member(file, n))
 }
 
-fn accepted(number: u64, item: u64) -> Result<(), Refusal> {
-    match number {
+fn accepted(head: ffi::Head) -> Result<(), Refusal> {
+    match head.number {
         0 => Ok(()),
-        _ => Err(Refusal { number, item }),
+        number => Err(Refusal {
+            number,
+            item: head.item,
+            offset: head.offset,
+        }),
     }
 }
 
 fn walk_of(a: ffi::Walk) -> Result<Walk, Refusal> {
-    accepted(a.number, a.item)?;
+    accepted(a.head)?;
     Ok(Walk {
         visited: a.visited,
         end: a.end,
-        cause: accepted(a.cause.number, a.cause.item).err(),
+        cause: accepted(a.cause).err(),
     })
 }
 
 fn part_of(file: &[u8], r: ffi::Range) -> Result<&[u8], Refusal> {
-    accepted(r.number, r.item)?;
-    Ok(&file[r.offset as usize..(r.offset + r.length) as usize])
+    accepted(r.head)?;
+    Ok(&file[r.start as usize..(r.start + r.length) as usize])
 }
 
 fn format_of(bits: u64) -> Format {

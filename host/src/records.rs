@@ -5,7 +5,7 @@ use crate::{accepted, ffi, Plan, Refusal};
 /// How long the record text of the module's images for a plan is.
 pub fn records_length(file: &[u8], plan: &Plan) -> Result<u64, Refusal> {
     let answer = ffi::records_length(file, (plan.text, plan.data), &plan.list);
-    accepted(answer.number, answer.item)?;
+    accepted(answer.head)?;
     Ok(answer.length)
 }
 
@@ -20,7 +20,7 @@ pub fn write_records_into(
 ) -> Result<(), Refusal> {
     let at = (plan.text, plan.data);
     let written = ffi::write_records(file, at, &plan.list, text, data, records);
-    accepted(written.number, written.item)
+    accepted(written)
 }
 
 /// The S-records of two images, as they are, for a plan.
@@ -45,5 +45,5 @@ pub fn read_records(
 ) -> Result<(), Refusal> {
     let at = (plan.text, plan.data);
     let read = ffi::read_records(file, at, &plan.list, records, text, data);
-    accepted(read.number, read.item)
+    accepted(read)
 }

@@ -86,7 +86,7 @@ pub fn symbol_table(file: &[u8]) -> Result<SymbolTable<'_>, Refusal> {
 pub fn loader_symbol_table(file: &[u8]) -> Result<Vec<LoaderRow<'_>>, Refusal> {
     let mut numbers = vec![0; LOADER_SYMBOL * module(file)?.symbols as usize];
     let answer = ffi::loader_symbol_table(file, &mut numbers);
-    accepted(answer.number, answer.item)?;
+    accepted(answer)?;
     let rows = numbers.chunks_exact(LOADER_SYMBOL);
     Ok(rows.map(|row| loader_row(file, row)).collect())
 }
@@ -95,7 +95,7 @@ pub fn loader_symbol_table(file: &[u8]) -> Result<Vec<LoaderRow<'_>>, Refusal> {
 pub fn relocation_table(file: &[u8]) -> Result<Vec<Relocation>, Refusal> {
     let mut numbers = vec![0; RELOCATION * module(file)?.relocations as usize];
     let answer = ffi::relocation_table(file, &mut numbers);
-    accepted(answer.number, answer.item)?;
+    accepted(answer)?;
     Ok(numbers
         .chunks_exact(RELOCATION)
         .map(relocation_row)
@@ -106,7 +106,7 @@ pub fn relocation_table(file: &[u8]) -> Result<Vec<Relocation>, Refusal> {
 pub fn import_table(file: &[u8]) -> Result<ImportTable<'_>, Refusal> {
     let mut numbers = vec![0; IMPORT * module(file)?.ids as usize];
     let answer = ffi::import_table(file, &mut numbers);
-    accepted(answer.number, answer.item)?;
+    accepted(answer)?;
     Ok(ImportTable { file, numbers })
 }
 

@@ -440,6 +440,6 @@ fn a_check_of_several_sheets_says_which() {
     assert_eq!(ran.err.lines().count(), 4);
     assert_eq!(
         ran.err.lines().last(),
-        Some("xcoff: short.sheet for exe-imports-32 (addresses: 1, loader symbols: 9): refused 20 2: ROOM, the list of addresses is not exactly as long as needed")
+        Some("xcoff: short.sheet for exe-imports-32 (addresses: 1, loader symbols: 9): refused 20 2 0: ROOM, the list of addresses is not exactly as long as needed")
     );
 }

@@ -296,7 +296,7 @@ fn a_refused_file_is_named_with_its_number() {
     folder.copy("exe-oldmagic-64");
     folder.write("empty", b"");
     let not_module =
-        "xcoff: gas-main-32.o: refused 13 0: MODULE, the file is not a loadable module: \
+        "xcoff: gas-main-32.o: refused 13 0 0: MODULE, the file is not a loadable module: \
                       its auxiliary header is too short, as in an object file that is not linked\n";
     for command in ["module", "imports", "relocations"] {
         folder.fails(&[command, "gas-main-32.o"], 1, not_module);
@@ -329,13 +329,119 @@ fn a_refused_file_is_named_with_its_number() {
     );
     folder.fails(&["sheet", "sheet", "gas-main-32.o"], 1, not_module);
     let magic =
-        "xcoff: exe-oldmagic-64: refused 2 0: MAGIC, the file starts with neither 01DF nor 01F7\n";
-    let short = "xcoff: empty: refused 1 0: SHORT, the file ends before its headers do\n";
+        "xcoff: exe-oldmagic-64: refused 2 0 0: MAGIC, the file starts with neither 01DF nor 01F7\n";
+    let short = "xcoff: empty: refused 1 0 0: SHORT, the file ends before its headers do\n";
     for command in ["headers", "symbols"] {
         folder.fails(&[command, "exe-oldmagic-64"], 1, magic);
         folder.fails(&[command, "empty"], 1, short);
     }
     assert!(!folder.path("s").exists() && !folder.path("t").exists());
+}
+
+/// Places of a module and the bytes put there; the refusal, and what is shown below it.
+const SHOWN: [(usize, &[u8], &str); 7] = [
+    (
+        132 + 39,
+        &[0x41],
+        "refused 4 2 132: KIND, the flags of section 2 are not allowed
+  header of section 2: 40 bytes at offset 132
+  00000084  2e 64 61 74 61 00 00 00 20 00 01 a0 20 00 01 a0
+  00000094  00 00 00 60 00 00 01 a0 00 00 04 ce 00 00 00 00
+  000000a4  00 14 00 00 00 00 00 41
+  field    offset  value
+  s_flags     168  00000041
+",
+    ),
+    (
+        2510,
+        &[0, 0, 0, 3],
+        "refused 7 0 2510: STRINGS, the string table has length 1, 2 or 3
+  length of the string table: 4 bytes at offset 2510
+  000009ce  00 00 00 03
+  field   offset  value
+  length    2510  3
+",
+    ),
+    (
+        512,
+        &[0, 0, 0, 3],
+        "refused 15 1 512: LOADER, the loader section is bad: its version is neither 1 nor 2
+  header of the loader section (section 4, size 648): 32 bytes at offset 512
+  00000200  00 00 00 03 00 00 00 09 00 00 00 14 00 00 00 45
+  00000210  00 00 00 04 00 00 01 e8 00 00 00 54 00 00 02 2d
+  field      offset  value
+  l_version     512  3
+",
+    ),
+    (
+        212 + 16,
+        &[0, 0, 0, 10],
+        "refused 15 0 512: LOADER, the loader section is bad: its header is short
+  header of the loader section (section 4, size 10): 10 bytes at offset 512
+  00000200  00 00 00 01 00 00 00 09 00 00
+",
+    ),
+    (
+        212 + 16,
+        &[0, 0, 0, 0, 0, 0, 0, 0],
+        "refused 15 0 0: LOADER, the loader section is bad: its header is short
+  header of the loader section (section 4, size 0): no bytes in the file
+",
+    ),
+    (
+        592 + 14,
+        &[4],
+        "refused 16 5 592: LSYM, the type, section, import id or name of loader symbol 5 is bad
+  loader symbol 5: 24 bytes at offset 592
+  00000250  00 00 00 00 00 00 00 02 00 00 00 00 00 00 04 0a
+  00000260  00 00 00 02 00 00 00 00
+  field     offset  value
+  l_zeroes     592  00000000
+  l_offset     596  2
+  l_scnum      604  0
+  l_smtype     606  04
+  l_ifile      608  2
+",
+    ),
+    (
+        796 + 4,
+        &[0xFF; 4],
+        "refused 14 3 796: THREAD, the module has thread-local storage: \
+         section 3 is tdata or tbss, or relocation entry 3 is by symbol -1 or -2
+  relocation entry 3: 12 bytes at offset 796
+  0000031c  20 00 01 f8 ff ff ff ff 1f 00 00 02
+  field     offset  value
+  l_symndx     800  -1
+",
+    ),
+];
+
+/// In every command that reads a module.
+#[test]
+fn what_stands_where_a_refusal_points_is_shown() {
+    let folder = bench();
+    for (place, bytes, text) in SHOWN {
+        let mut file = real(M);
+        file[place..place + bytes.len()].copy_from_slice(bytes);
+        folder.write("bad", &file);
+        let text = format!("xcoff: bad: {text}");
+        for words in [
+            "module bad",
+            "imports bad --json",
+            "relocations bad",
+            "plan bad -o new",
+            "sheet sheet bad",
+            "build bad sheet -o new new2",
+            "move bad sheet sheet text data",
+            "check bad sheet text data --or sheet",
+            "records bad sheet -o new",
+            "images bad sheet srec -o new new2",
+        ] {
+            let words: Vec<&str> = words.split(' ').collect();
+            folder.fails(&words, 1, &text);
+        }
+    }
+    assert!(!folder.path("new").exists());
 }
 
 #[test]
@@ -344,7 +450,7 @@ fn a_file_over_the_limit_is_judged_by_the_library() {
     let mut file = real(M);
     file.resize(16_777_217, 0);
     folder.write("big", &file);
-    let limit = "refused 3 0: LIMIT, the file is longer than 16,777,216 bytes\n";
+    let limit = "refused 3 0 0: LIMIT, the file is longer than 16,777,216 bytes\n";
     folder.fails(&["headers", "big"], 1, &format!("xcoff: big: {limit}"));
     // An endless one ends too.
     folder.fails(
@@ -364,19 +470,19 @@ fn a_file_over_the_limit_is_judged_by_the_library() {
         &["check", M, "sheet", "/dev/zero", "data"],
         1,
         "xcoff: /dev/zero (more than 16777216 bytes, where the text image of exe-imports-32 has 160): \
-         refused 20 0: ROOM, the text image, sheet or record text is not exactly as long as needed\n",
+         refused 20 0 0: ROOM, the text image, sheet or record text is not exactly as long as needed\n",
     );
 }
 
-const NO_SHEET: &str = "refused 21 0: SHEET, not a plan sheet: \
+const NO_SHEET: &str = "refused 21 0 0: SHEET, not a plan sheet: \
                         it is short, does not start with 0002, or is not as long as its count says\n";
 const MANY: &str =
-    "many: refused 3 2: LIMIT, there are more than 4,096 loader symbols, or addresses in a sheet\n";
+    "many: refused 3 2 0: LIMIT, there are more than 4,096 loader symbols, or addresses in a sheet\n";
 const SHORT: &str = "short for exe-imports-32 (addresses: 8, loader symbols: 9): \
-                     refused 20 2: ROOM, the list of addresses is not exactly as long as needed\n";
-const HIGH: &str = "high for exe-imports-32: refused 19 0: PLAN, \
+                     refused 20 2 0: ROOM, the list of addresses is not exactly as long as needed\n";
+const HIGH: &str = "high for exe-imports-32: refused 19 0 0: PLAN, \
                     the text image at the plan's text address passes the end of the address space\n";
-const IMPORT: &str = "import for exe-imports-32: refused 19 4: PLAN, \
+const IMPORT: &str = "import for exe-imports-32: refused 19 4 0: PLAN, \
                       the plan's address of loader symbol 4 does not fit in 32 bits\n";
 
 #[test]
@@ -406,7 +512,7 @@ fn a_refused_sheet_or_plan_is_named_with_its_number() {
     refused(&["move", M, "high", "import", "text", "data"], HIGH);
     refused(
         &["plan", M, "--data", "ffffff61", "-o", "t"],
-        "the plan for exe-imports-32: refused 19 1: PLAN, \
+        "the plan for exe-imports-32: refused 19 1 0: PLAN, \
          the data image at the plan's data address passes the end of the address space\n",
     );
     assert!(!folder.path("t").exists() && !folder.path("d").exists());
@@ -417,9 +523,9 @@ fn images_of_the_wrong_length_are_refused() {
     let folder = bench();
     folder.write("longer", &[&folder.read("data")[..], &[0]].concat());
     folder.write("none", b"");
-    let data = "xcoff: longer (161 bytes, where the data image of exe-imports-32 has 160): refused 20 1: ROOM, \
+    let data = "xcoff: longer (161 bytes, where the data image of exe-imports-32 has 160): refused 20 1 0: ROOM, \
                 the data image is not exactly as long as needed\n";
-    let text = "xcoff: none (0 bytes, where the text image of exe-imports-32 has 160): refused 20 0: ROOM, \
+    let text = "xcoff: none (0 bytes, where the text image of exe-imports-32 has 160): refused 20 0 0: ROOM, \
                 the text image, sheet or record text is not exactly as long as needed\n";
     for unchecked in [&[][..], &["--unchecked"]] {
         let moved = ["move", M, "sheet", "sheet"];

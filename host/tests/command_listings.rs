@@ -158,7 +158,7 @@ fn symbols_are_what_other_tools_list() {
     let folder = Folder::new();
     let mut compared = 0;
     for file in listed() {
-        folder.copy(&file.name);
+        let bytes = folder.copy(&file.name);
         let ran = folder.run(&["symbols", &file.name]);
         if ran.out.is_empty() {
             continue;
@@ -167,11 +167,7 @@ fn symbols_are_what_other_tools_list() {
         // A visibility of 5 to 7 is refused and ends the list.
         let end = expected.iter().position(|e| is_refused(e));
         let cause = end.map_or("".into(), |n| {
-            let i = decimal(&expected[n][0]);
-            format!(
-                "xcoff: {}: refused 30 {i}: VISIBILITY, the type of symbol {i} claims a visibility of 5 to 7, which means nothing\n",
-                file.name
-            )
+            bad_visibility(&file.name, &bytes, hex(&expected[n][0]) as usize)
         });
         expected.truncate(end.unwrap_or(expected.len()));
         assert_eq!(ran.status, Some(end.is_some() as i32), "{}", file.name);
@@ -185,6 +181,27 @@ fn symbols_are_what_other_tools_list() {
         }
     }
     assert!(compared >= 1900, "{compared} symbols");
+}
+
+/// What is said of symbol `i`, and its entry.
+fn bad_visibility(name: &str, file: &[u8], i: usize) -> String {
+    let start = u32::from_be_bytes(file[8..12].try_into().unwrap()) as usize;
+    let at = start + 18 * i;
+    let shown = |from: usize, to: usize| -> String {
+        let bytes = &file[at + from..at + to];
+        bytes.iter().map(|byte| format!(" {byte:02x}")).collect()
+    };
+    format!(
+        "xcoff: {name}: refused 30 {i} {at}: VISIBILITY, \
+         the type of symbol {i} claims a visibility of 5 to 7, which means nothing\n  \
+         symbol {i}: 18 bytes at offset {at}\n  {at:08x} {}\n  {:08x} {}\n  \
+         field   offset  value\n  n_type  {:>6}  {}\n",
+        shown(0, 16),
+        at + 16,
+        shown(16, 18),
+        at + 14,
+        shown(14, 16).replace(' ', "")
+    )
 }
 
 /// A type and, after a slash, the visibility that it claims.
@@ -253,8 +270,20 @@ fn a_walk_that_stops_is_listed_up_to_there() {
     assert_eq!(rows(&ran.out, "index").len(), 2);
     assert_eq!(
         ran.err,
-        "xcoff: gas-stabs-32.o: refused 10 4: NAME, the name offset of symbol 4 leads to no name in the string table or debug section\n"
+        "xcoff: gas-stabs-32.o: refused 10 4 682: NAME, \
+         the name offset of symbol 4 leads to no name in the string table or debug section\n  \
+         symbol 4: 18 bytes at offset 682\n  \
+         000002aa  00 00 00 00 7f 00 00 02 00 00 00 00 ff fe 00 00\n  \
+         000002ba  8c 00\n  \
+         field     offset  value\n  \
+         n_zeroes     682  00000000\n  \
+         n_offset     686  2130706434\n  \
+         n_sclass     698  140\n"
     );
+    // With --json too: the refusal is no row.
+    let json = folder.run(&["symbols", "gas-stabs-32.o", "--json"]);
+    assert_eq!((json.status, json.err), (ran.status, ran.err));
+    assert_eq!(json.out.lines().count(), 2);
 }
 
 #[test]

@@ -270,12 +270,13 @@ fn a_check_of_several_sheets_says_which_the_records_are_for() {
 
 // ---- refusals
 
-const NO_LIST: &str = "refused 20 2: ROOM, the list of addresses is not exactly as long as needed";
-const CLASH: &str = "refused 24 0: CLASH, the text and data images share an address";
+const NO_LIST: &str =
+    "refused 20 2 0: ROOM, the list of addresses is not exactly as long as needed";
+const CLASH: &str = "refused 24 0 0: CLASH, the text and data images share an address";
 
 fn record(line: usize) -> String {
     format!(
-        "refused 22 {line}: RECORD, line {line} of the record text is not the line that is written there, \
+        "refused 22 {line} 0: RECORD, line {line} of the record text is not the line that is written there, \
          or is missing or one too many"
     )
 }
@@ -426,7 +427,7 @@ fn a_refused_plan_is_named_with_its_number() {
     folder.write("over", &sheet(0x109f, 0x1000, &[0; 9]));
     let short = format!(" (addresses: 8, loader symbols: 9): {NO_LIST}");
     plan_is_refused(&folder, M, "short", &short);
-    let high = "refused 19 0: PLAN, the text image at the plan's text address passes the end of the address space";
+    let high = "refused 19 0 0: PLAN, the text image at the plan's text address passes the end of the address space";
     plan_is_refused(&folder, M, "high", &format!(": {high}"));
     plan_is_refused(&folder, M, "same", &format!(": {CLASH}"));
     plan_is_refused(&folder, M, "over", &format!(": {CLASH}"));
@@ -447,7 +448,7 @@ fn an_xcoff64_module_has_no_records() {
     let folder = bench();
     folder.copy("exe-imports-64");
     done(&folder, "plan exe-imports-64 -o sheet64");
-    let form = ": refused 23 0: FORM, S-records are for XCOFF32 modules only";
+    let form = ": refused 23 0 0: FORM, S-records are for XCOFF32 modules only";
     plan_is_refused(&folder, "exe-imports-64", "sheet64", form);
 }
 
@@ -463,14 +464,14 @@ fn images_of_the_wrong_length_are_refused() {
             &format!("{records} text longer"),
             1,
             "xcoff: longer (161 bytes, where the data image of exe-imports-32 has 160): \
-             refused 20 1: ROOM, the data image is not exactly as long as needed\n",
+             refused 20 1 0: ROOM, the data image is not exactly as long as needed\n",
         );
         fails(
             &folder,
             &format!("{records} none longer"),
             1,
             "xcoff: none (0 bytes, where the text image of exe-imports-32 has 160): \
-             refused 20 0: ROOM, the text image, sheet or record text is not exactly as long as needed\n",
+             refused 20 0 0: ROOM, the text image, sheet or record text is not exactly as long as needed\n",
         );
     }
     assert!(!folder.path("t").exists());

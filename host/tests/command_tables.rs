@@ -22,6 +22,13 @@ fn files() -> Vec<(String, Vec<u8>)> {
     names.into_iter().map(with_bytes).collect()
 }
 
+/// Where an entry of the symbol table lies.
+fn symbol_at(file: &[u8], index: u64) -> u64 {
+    let start = if file[1] == 0xDF { 8..12 } else { 8..16 };
+    let number = file[start].iter().fold(0, |n, &b| n << 8 | u64::from(b));
+    number + 18 * index
+}
+
 #[test]
 fn the_symbol_table_is_what_a_walk_reads() {
     for (name, file) in files() {
@@ -49,6 +56,7 @@ fn the_symbol_table_is_what_a_walk_reads() {
             let csect = row.csect.ok_or(Refusal {
                 number: 12,
                 item: index,
+                offset: symbol_at(&file, index),
             });
             assert_eq!(csect, xcoff::csect(&file, index), "{name} {index}");
             index += 1 + row.symbol.numaux;

@@ -9,8 +9,36 @@ use xcoff::{Format, Plan, Refusal};
 
 const FORMATS: [Format; 2] = [Format::Xcoff32, Format::Xcoff64];
 
+/// A refusal whose item names nothing in the file.
 fn refused(number: u64, item: u64) -> Option<Refusal> {
-    Some(Refusal { number, item })
+    refused_at(number, item, 0)
+}
+
+fn refused_at(number: u64, item: u64, offset: u64) -> Option<Refusal> {
+    Some(Refusal {
+        number,
+        item,
+        offset,
+    })
+}
+
+/// In XCOFF32 and in XCOFF64.
+fn by(format: Format, narrow: u64, wide: u64) -> u64 {
+    match format {
+        Format::Xcoff32 => narrow,
+        Format::Xcoff64 => wide,
+    }
+}
+
+/// Where the loader section lies: behind the headers, text and data.
+fn loader_at(m: &Module) -> u64 {
+    by(m.format, 20 + 72 + 4 * 40, 24 + 110 + 4 * 72) + m.text_size + m.data_size
+}
+
+/// Where relocation entry `i` lies: behind the loader section's header and symbols.
+fn entry_at(m: &Module, i: u64) -> u64 {
+    let start = loader_at(m) + by(m.format, 32, 56) + 24 * m.symbols.len() as u64;
+    start + by(m.format, 12, 16) * i
 }
 
 fn judged(m: &Module) -> Option<Refusal> {
@@ -35,10 +63,11 @@ fn a_field_lies_wholly_in_its_section() {
         m.entries = fields(1, &[0x1000_00FC]);
         assert_eq!(judged(&m), None);
         m.entries = fields(1, &[0x1000_00FD]);
-        assert_eq!(judged(&m), refused(17, 0));
+        assert_eq!(judged(&m), refused_at(17, 0, entry_at(&m, 0)));
     }
     let mut m = Module::new(Format::Xcoff64);
-    for (address, verdict) in [(0x1000_00F8, None), (0x1000_00F9, refused(17, 0))] {
+    let bad = refused_at(17, 0, entry_at(&m, 0));
+    for (address, verdict) in [(0x1000_00F8, None), (0x1000_00F9, bad)] {
         m.entries = vec![Entry {
             address,
             symbol: 0,
@@ -58,7 +87,7 @@ fn fields_are_the_same_or_share_no_byte() {
         for (pair, verdict) in [
             ([0x100, 0x104], None),
             ([0x100, 0x100], None),
-            ([0x100, 0x102], refused(18, 1)),
+            ([0x100, 0x102], refused_at(18, 1, entry_at(&m, 1))),
         ] {
             m.entries = fields(2, &pair);
             assert_eq!(judged(&m), verdict, "{format:?} {pair:x?}");
@@ -75,7 +104,7 @@ fn at_most_4096_relocation_entries() {
         m.entries = fields(2, &addresses[..4096]);
         assert_eq!(xcoff::module(&m.bytes()).map(|m| m.relocations), Ok(4096));
         m.entries = fields(2, &addresses);
-        assert_eq!(judged(&m), refused(3, 3));
+        assert_eq!(judged(&m), refused_at(3, 3, loader_at(&m)));
     }
 }
 
@@ -89,7 +118,7 @@ fn at_most_4096_loader_symbols() {
         assert_eq!(xcoff::loader_symbol_name(&file, 4098), Ok(&b"s"[..]));
         assert_eq!(xcoff::loader_symbol(&file, 4099).err(), refused(8, 4099));
         m.symbols = vec![Symbol::Data; 4097];
-        assert_eq!(judged(&m), refused(3, 2));
+        assert_eq!(judged(&m), refused_at(3, 2, loader_at(&m)));
     }
 }
 
@@ -110,7 +139,7 @@ fn the_first_loader_symbol_has_index_3() {
         m.entries[0].symbol = 3;
         assert_eq!(judged(&m), None);
         m.entries[0].symbol = 4;
-        assert_eq!(judged(&m), refused(17, 0));
+        assert_eq!(judged(&m), refused_at(17, 0, entry_at(&m, 0)));
     }
 }
 
@@ -155,14 +184,16 @@ fn a_refusal_is_told_in_words() {
     let r = Refusal {
         number: 13,
         item: 0,
+        offset: 0,
     };
-    assert_eq!(r.to_string(), "refused 13 0: MODULE, the file is not a loadable module: its auxiliary header is too short, as in an object file that is not linked");
+    assert_eq!(r.to_string(), "refused 13 0 0: MODULE, the file is not a loadable module: its auxiliary header is too short, as in an object file that is not linked");
     let r = Refusal {
         number: 17,
         item: 5,
+        offset: 1234,
     };
     assert_eq!(
         r.to_string(),
-        "refused 17 5: LREL, the type, section, address or symbol of relocation entry 5 is bad"
+        "refused 17 5 1234: LREL, the type, section, address or symbol of relocation entry 5 is bad"
     );
 }

@@ -149,6 +149,7 @@ fn a_list_of_calls_answers_for_its_last_call_and_counts_them() {
         let refused = Err(Refusal {
             number: 20,
             item: 2,
+            offset: 0,
         });
         assert_eq!(run(&[]), blank, "{name}: no call");
         let all = run(&[bad.clone(), bad.clone()]);
@@ -173,7 +174,7 @@ fn a_refused_call_changes_no_byte() {
         let mut text = a.text.clone();
         let mut data = vec![0; a.data.len() + 1];
         let r = move_images(&a.file, &a.plan, &b.plan, &mut text, &mut data).unwrap_err();
-        assert_eq!((r.number, r.item), (20, 1), "{name}");
+        assert_eq!((r.number, r.item, r.offset), (20, 1, 0), "{name}");
         assert_eq!(text, a.text, "{name}: text");
         assert!(data.iter().all(|&x| x == 0), "{name}: data");
     }

@@ -115,13 +115,13 @@ fn verdict(name: &str, file: &[u8]) -> String {
         Ok(o) => o,
     };
     let walk = xcoff::walk(file).expect("an opened file is walked");
-    let cause = walk.cause.unwrap_or(Refusal { number: 0, item: 0 });
+    let cause = walk.cause.map_or((0, 0), |r| (r.number, r.item));
     let head = format!(
         "{name} {} walk {} {} {}",
         bits(opened.format),
         walk.visited,
-        cause.number,
-        cause.item
+        cause.0,
+        cause.1
     );
     let m = match xcoff::module(file) {
         Err(r) => return format!("{head} module {} {}", r.number, r.item),
@@ -331,11 +331,11 @@ fn told_csect(file: &[u8], i: u64) -> String {
 
 /// The listing's fact, without the address of an entry or TOC that is in no section. A symbol with a visibility of 5 to 7
 /// is refused.
-fn meant(fact: &str) -> String {
+fn meant(file: &[u8], fact: &str) -> String {
     let mut words: Vec<&str> = fact.split(' ').collect();
     if has_bad_visibility(&words) {
-        let item = u64::from_str_radix(words[1], 16).expect("an index");
-        return format!("symbol {}: {}", words[1], Refusal { number: 30, item });
+        let refusal = bad_visibility(file, words[1]);
+        return format!("symbol {}: {refusal}", words[1]);
     }
     if words[0] == "module" {
         for section in [10, 12] {
@@ -345,6 +345,17 @@ fn meant(fact: &str) -> String {
         }
     }
     words.join(" ")
+}
+
+/// VISIBILITY of a symbol of an XCOFF32 file, with the place of its entry.
+fn bad_visibility(file: &[u8], index: &str) -> Refusal {
+    let item = u64::from_str_radix(index, 16).expect("an index");
+    let start = u32::from_be_bytes(file[8..12].try_into().expect("a file header"));
+    Refusal {
+        number: 30,
+        item,
+        offset: u64::from(start) + 18 * item,
+    }
 }
 
 fn has_bad_visibility(words: &[&str]) -> bool {
@@ -361,11 +372,60 @@ fn refused_by_rule(file: &[u8], fact: &str) -> bool {
     match words[0] {
         "module" | "loader" | "lsym" | "id" | "lrel" => xcoff::module(file).is_err(),
         "csect" => {
-            let item = u64::from_str_radix(words[1], 16).expect("an index");
-            xcoff::csect(file, item).err() == Some(Refusal { number: 30, item })
+            let refusal = bad_visibility(file, words[1]);
+            xcoff::csect(file, refusal.item).err() == Some(refusal)
         }
         _ => false,
     }
+}
+
+// ---- offsets of refusals
+
+/// Where what a refusal of a module names lies, by the listing: section headers follow the auxiliary header, and in the
+/// loader section, as GNU ld lays it out, the entries follow the symbols and these the header.
+fn listed_offset(facts: &[&str], refusal: &Refusal) -> Option<u64> {
+    let file = facts_of(facts, "file", 5).next()?;
+    // Read as a hex number, as the others are.
+    let by = |narrow, wide| if file[0] == 0x64 { wide } else { narrow };
+    let item = refusal.item;
+    let header = by(20, 24) + file[3] + by(40, 72) * item.saturating_sub(1);
+    let kind = |n| {
+        facts_of(facts, "section", 6)
+            .find(|s| s[0] == n)
+            .map(|s| s[5])
+    };
+    let loader = facts_of(facts, "section", 6).find(|s| s[5] == 0x1000);
+    let loader = loader.map(|s| s[4]);
+    let symbols = facts_of(facts, "loader", 3).next().map(|counts| counts[0]);
+    match refusal.number {
+        3 | 15 => loader,
+        4..=6 => Some(header),
+        14 if [Some(0x400), Some(0x800)].contains(&kind(item)) => Some(header),
+        16 => Some(loader? + by(32, 56) + 24 * (item - 3)),
+        14 | 17 | 18 => Some(loader? + by(32, 56) + 24 * symbols? + by(12, 16) * item),
+        _ => None,
+    }
+}
+
+#[test]
+fn every_real_refusal_points_where_other_tools_list_it() {
+    let stored = stored("facts.txt");
+    let mut compared: BTreeMap<u64, u64> = BTreeMap::new();
+    for (name, facts) in facts(&stored) {
+        let Err(refusal) = xcoff::module(&real(name)) else {
+            continue;
+        };
+        let without = [(3, 1), (3, 4)].contains(&(refusal.number, refusal.item));
+        let expected = match refusal.number {
+            13 => 0,
+            _ if without => 0,
+            _ => listed_offset(&facts, &refusal).unwrap_or_else(|| panic!("{name}: {refusal}")),
+        };
+        assert_eq!(refusal.offset, expected, "{name}: {refusal}");
+        *compared.entry(refusal.number).or_default() += u64::from(refusal.offset != 0);
+    }
+    println!("offsets by refusal: {compared:?}");
+    assert!(compared.values().sum::<u64>() >= 20, "{compared:?}");
 }
 
 /// A relocation entry of a listing: address, type, section, symbol.
@@ -431,7 +491,7 @@ fn every_real_file_reads_as_other_tools_list_it() {
                 1
             };
             let got = told(&file, fact);
-            if got != meant(fact) {
+            if got != meant(&file, fact) {
                 differences.push(format!("{name}: expected {fact}, got {got}"));
             }
         }

@@ -55,7 +55,8 @@ impl Stored {
         let refusal = self
             .read(records)
             .expect_err("a text that is not as it must be");
-        assert_eq!(refusal.number, RECORD, "{}", self.name);
+        let no_place = (refusal.number, refusal.offset);
+        assert_eq!(no_place, (RECORD, 0), "{}", self.name);
         refusal.item
     }
 
@@ -196,6 +197,7 @@ fn form_comes_before_clash() {
     let form = Refusal {
         number: 23,
         item: 0,
+        offset: 0,
     };
     assert_eq!(records_length(&file, &plan), Err(form));
     assert_eq!(write_records(&file, &plan, &[], &[]), Err(form));
@@ -217,6 +219,6 @@ fn images_that_share_an_address_clash_before_room() {
         assert_eq!(records_length(&file, &plan).is_err(), clash);
         let refused = read_records(&file, &plan, &[], &mut [], &mut []).unwrap_err();
         assert_eq!(refused.number, if clash { 24 } else { 20 });
-        assert_eq!(refused.item, 0);
+        assert_eq!((refused.item, refused.offset), (0, 0));
     }
 }

@@ -1,6 +1,8 @@
 //! Recorded cases with the answers of an independent reading of the rules (tests/vectors): every case is run through the
-//! library, and its answer, written in the same words, must be the recorded one. tests/vectors/README.md has the form.
+//! library, and its answer, written in the same words, must be the recorded one. The second implementation must answer
+//! alike, offsets of refusals included, which the older cases do not have. tests/vectors/README.md has the form.
 
+use reference::generate::Op;
 use std::collections::BTreeMap;
 use std::fmt::Write;
 use std::path::PathBuf;
@@ -110,7 +112,7 @@ fn list_text(list: &[u64]) -> String {
 }
 
 fn given(answer: Result<String, Refusal>) -> String {
-    answer.unwrap_or_else(|r| format!("refused {} {}", r.number, r.item))
+    answer.unwrap_or_else(|r| format!("refused {} {} {}", r.number, r.item, r.offset))
 }
 
 /// A name by its bytes and its place in the file.
@@ -380,6 +382,66 @@ fn srecord_read(file: &[u8], words: &mut Words) -> String {
     format!("{answer} / {text} {data}")
 }
 
+// ---- the second implementation
+
+fn their_plan(words: &mut Words) -> reference::Plan {
+    let Plan { text, data, list } = plan(words);
+    reference::Plan { text, data, list }
+}
+
+fn their_calls(words: &mut Words) -> Vec<reference::Call> {
+    let mut calls = Vec::new();
+    while let Some(word) = words.next() {
+        calls.push(match word {
+            "build" => reference::Call::Build(their_plan(words)),
+            _ => reference::Call::Move(their_plan(words), their_plan(words)),
+        });
+    }
+    calls
+}
+
+/// A question as the comparison of both implementations takes it.
+fn operation(asked: &str) -> Op {
+    let words = &mut asked.split(' ');
+    match next(words) {
+        "open" | "list" => Op::Open,
+        "section" => Op::Section(number(next(words))),
+        "symbol" => Op::Symbol(number(next(words))),
+        "walk" => Op::Walk,
+        "csect" => Op::Csect(number(next(words))),
+        "module" => Op::Module,
+        "loader_symbol" => Op::LoaderSymbol(number(next(words))),
+        "import_id" => Op::ImportPath(number(next(words))),
+        "calls" => Op::Calls {
+            text: bytes(next(words)),
+            data: bytes(next(words)),
+            calls: their_calls(words),
+        },
+        "sheet_read" => Op::ReadSheet {
+            sheet: bytes(next(words)),
+            list: numbers(next(words)),
+        },
+        "sheet_write" => Op::WriteSheet {
+            text: number(next(words)),
+            data: number(next(words)),
+            list: numbers(next(words)),
+            sheet: bytes(next(words)),
+        },
+        "srecord_write" => Op::WriteRecords {
+            plan: their_plan(words),
+            text: bytes(next(words)),
+            data: bytes(next(words)),
+            records: bytes(next(words)),
+        },
+        _ => Op::ReadRecords {
+            plan: their_plan(words),
+            text: bytes(next(words)),
+            data: bytes(next(words)),
+            records: record_bytes(next(words)),
+        },
+    }
+}
+
 // ---- the cases
 
 fn answer(file: &[u8], asked: &str) -> String {
@@ -405,8 +467,21 @@ fn answer(file: &[u8], asked: &str) -> String {
     }
 }
 
+/// An answer as a text before request 4 has it.
+fn without_offsets(answer: String) -> String {
+    let mut parts = answer.split("refused ");
+    let mut text = parts.next().expect("a part").to_string();
+    for part in parts {
+        let (number, rest) = part.split_once(' ').expect("an item");
+        let (item, rest) = rest.split_once(' ').expect("an offset");
+        let rest = rest.trim_start_matches(|c: char| c.is_ascii_digit());
+        text += &format!("refused {number} {item}{rest}");
+    }
+    text
+}
+
 /// Runs the cases of a text; gives how many there are of each operation.
-fn check(name: &str) -> BTreeMap<String, u64> {
+fn check(name: &str, as_recorded: fn(String) -> String) -> BTreeMap<String, u64> {
     let path = PathBuf::from(env!("CARGO_MANIFEST_DIR")).join("../tests/vectors");
     let path = path.join(name);
     let text = std::fs::read_to_string(&path).unwrap_or_else(|e| panic!("{}: {e}", path.display()));
@@ -419,7 +494,10 @@ fn check(name: &str) -> BTreeMap<String, u64> {
             continue;
         }
         let (asked, expected) = line.split_once(" = ").expect("a question and its answer");
-        let got = answer(&file, asked);
+        let got = as_recorded(answer(&file, asked));
+        if let Err(difference) = agree::compare(&file, &operation(asked)) {
+            differences.push(format!("line {}: {asked:.200}: {difference:?}", n + 1));
+        }
         if got != expected {
             differences.push(format!(
                 "line {}: {asked:.200}: expected {expected:.400}, got {got:.400}",
@@ -441,14 +519,14 @@ fn check(name: &str) -> BTreeMap<String, u64> {
 
 #[test]
 fn every_recorded_case_is_answered_as_recorded() {
-    let counts = check("cases.txt");
+    let counts = check("cases.txt", without_offsets);
     assert_eq!(counts.values().sum::<u64>(), 2_771);
     assert_eq!(counts.len(), 12, "{counts:?}");
 }
 
 #[test]
 fn every_recorded_case_of_request_2_is_answered_as_recorded() {
-    let counts = check("cases-02.txt");
+    let counts = check("cases-02.txt", without_offsets);
     assert_eq!(counts.values().sum::<u64>(), 569);
     assert_eq!(counts.len(), 14, "{counts:?}");
     assert_eq!(
@@ -459,13 +537,13 @@ fn every_recorded_case_of_request_2_is_answered_as_recorded() {
 
 #[test]
 fn every_recorded_case_of_request_3_is_answered_as_recorded() {
-    let counts = check("cases-03.txt");
+    let counts = check("cases-03.txt", without_offsets);
     assert_eq!(counts.values().sum::<u64>(), 578);
 }
 
 #[test]
 fn every_recorded_case_of_request_1_is_answered_as_recorded() {
-    let counts = check("cases-01.txt");
+    let counts = check("cases-01.txt", without_offsets);
     assert_eq!(counts.values().sum::<u64>(), 586);
     assert_eq!(
         (counts["symbol"], counts["walk"], counts["csect"]),
@@ -475,10 +553,18 @@ fn every_recorded_case_of_request_1_is_answered_as_recorded() {
 
 #[test]
 fn every_recorded_case_of_request_9_is_answered_as_recorded() {
-    let counts = check("cases-09.txt");
+    let counts = check("cases-09.txt", without_offsets);
     assert_eq!(counts.values().sum::<u64>(), 600);
     assert_eq!(
         (counts["symbol"], counts["walk"], counts["csect"]),
         (218, 84, 200)
     );
+}
+
+#[test]
+fn every_recorded_case_of_request_4_is_answered_as_recorded() {
+    let counts = check("cases-04.txt", |answer| answer);
+    assert_eq!(counts.values().sum::<u64>(), 600);
+    assert_eq!(counts.len(), 14, "{counts:?}");
+    assert_eq!((counts["symbol"], counts["csect"]), (80, 82));
 }

@@ -19,27 +19,27 @@ static void expect(int holds, const char *what)
 
 #define EXPECT(holds) expect(holds, #holds)
 
+/* A refusal: its number, its item, and where in the file that is. */
+#define REFUSED(answer, n, i, o) ((answer).number == (n) && (answer).item == (i) && (answer).offset == (o))
+#define ACCEPTED(answer) REFUSED(answer, 0, 0, 0)
+#define SAME_HEAD(answer, other) REFUSED(other, (answer).number, (answer).item, (answer).offset)
+
 static int is(xcoff_name_answer a, const char *text)
 {
-    return a.number == 0 && a.length == strlen(text) && memcmp(file + a.offset, text, a.length) == 0;
-}
-
-static int refused(uint64_t number, uint64_t item, uint64_t expected_number, uint64_t expected_item)
-{
-    return number == expected_number && item == expected_item;
+    return ACCEPTED(a) && a.length == strlen(text) && memcmp(file + a.start, text, a.length) == 0;
 }
 
 static void headers(void)
 {
     xcoff_open_answer o = xcoff_open(file, length);
     xcoff_section_answer s = xcoff_section(file, length, 2);
-    EXPECT(o.number == 0 && o.item == 0 && o.bits == 32 && o.sections == 4);
+    EXPECT(ACCEPTED(o) && o.bits == 32 && o.sections == 4);
     EXPECT(o.symbols == 60 && o.opthdr == 72 && o.flags == 0x1206);
     EXPECT(s.paddr == 0x200001a0 && s.vaddr == 0x200001a0 && s.size == 0x60);
     EXPECT(s.scnptr == 0x1a0 && s.flag == 0x40 && s.raw == 1);
     EXPECT(is(xcoff_section_name(file, length, 2), ".data"));
     s = xcoff_section(file, length, 5);
-    EXPECT(refused(s.number, s.item, 8, 5) && s.paddr == 0 && s.flag == 0 && s.raw == 0);
+    EXPECT(REFUSED(s, 8, 5, 0) && s.paddr == 0 && s.flag == 0 && s.raw == 0);
 }
 
 static void symbols(void)
@@ -48,33 +48,40 @@ static void symbols(void)
     xcoff_walk_answer w = xcoff_walk(file, length);
     xcoff_csect_answer c = xcoff_csect(file, length, 28);
     xcoff_name_answer n = xcoff_symbol_name(file, length, 60);
-    EXPECT(y.number == 0 && y.value == 0xffffffff && y.scnum == -2);
+    EXPECT(ACCEPTED(y) && y.value == 0xffffffff && y.scnum == -2);
     EXPECT(y.type == 0 && y.sclass == 103 && y.numaux == 1);
     EXPECT(y.has_visibility == 0 && y.visibility == 0);
     EXPECT(is(xcoff_symbol_name(file, length, 26), "resolved_later_at_run_time"));
-    EXPECT(refused(n.number, n.item, 8, 60) && n.offset == 0 && n.length == 0);
-    EXPECT(w.number == 0 && w.visited == 30 && w.end == 60 && w.cause.number == 0 && w.cause.item == 0);
-    EXPECT(c.number == 0 && c.type == 3 && c.align == 3 && c.smclas == 5 && c.length == 64);
+    EXPECT(REFUSED(n, 8, 60, 0) && n.start == 0 && n.length == 0);
+    EXPECT(ACCEPTED(w) && w.visited == 30 && w.end == 60 && ACCEPTED(w.cause));
+    EXPECT(ACCEPTED(c) && c.type == 3 && c.align == 3 && c.smclas == 5 && c.length == 64);
+}
+
+/* Where an entry of the symbol table lies in the file. */
+static size_t symbol_at(size_t i)
+{
+    return ((size_t)file[8] << 24 | (size_t)file[9] << 16 | (size_t)file[10] << 8 | file[11]) + 18 * i;
 }
 
 /* The file has auxiliary version 2; the type of symbol 28, of class 2, is changed. */
 static void visibilities(void)
 {
-    uint8_t *type = file + ((size_t)file[8] << 24 | (size_t)file[9] << 16 | (size_t)file[10] << 8 | file[11]) + 28 * 18 + 14;
+    size_t at = symbol_at(28);
+    uint8_t *type = file + at + 14;
     xcoff_symbol_answer y = xcoff_symbol(file, length, 28);
     xcoff_walk_answer w;
-    EXPECT(y.number == 0 && y.sclass == 2 && y.type == 0 && y.has_visibility == 1 && y.visibility == 0);
+    EXPECT(ACCEPTED(y) && y.sclass == 2 && y.type == 0 && y.has_visibility == 1 && y.visibility == 0);
     *type = 0xA0;
     y = xcoff_symbol(file, length, 28);
-    EXPECT(y.number == 0 && y.type == 0xA000 && y.has_visibility == 1 && y.visibility == 2);
+    EXPECT(ACCEPTED(y) && y.type == 0xA000 && y.has_visibility == 1 && y.visibility == 2);
     *type = 0x50;
     y = xcoff_symbol(file, length, 28);
-    EXPECT(refused(y.number, y.item, 30, 28) && y.type == 0 && y.has_visibility == 0 && y.visibility == 0);
+    EXPECT(REFUSED(y, 30, 28, at) && y.type == 0 && y.has_visibility == 0 && y.visibility == 0);
     w = xcoff_walk(file, length);
-    EXPECT(w.number == 0 && w.end == 28 && refused(w.cause.number, w.cause.item, 30, 28));
+    EXPECT(ACCEPTED(w) && w.end == 28 && REFUSED(w.cause, 30, 28, at));
     file[23] = 1;
     y = xcoff_symbol(file, length, 28);
-    EXPECT(y.number == 0 && y.type == 0x5000 && y.has_visibility == 0 && y.visibility == 0);
+    EXPECT(ACCEPTED(y) && y.type == 0x5000 && y.has_visibility == 0 && y.visibility == 0);
     file[23] = 2;
     *type = 0;
 }
@@ -83,19 +90,66 @@ static void module(void)
 {
     xcoff_module_answer m = xcoff_module(file, length);
     xcoff_loader_symbol_answer s = xcoff_loader_symbol(file, length, 5);
-    EXPECT(m.number == 0 && m.item == 0 && m.bits == 32);
+    EXPECT(ACCEPTED(m) && m.bits == 32);
     EXPECT(m.text.number == 1 && m.text.address == 0x10000100 && m.text.size == 0xa0);
     EXPECT(m.data.number == 2 && m.data.address == 0x200001a0 && m.data.size == 0x60);
     EXPECT(m.bss.number == 3 && m.bss.address == 0x20000200 && m.bss.size == 0x40);
     EXPECT(m.loader == 4 && m.image == 0xa0 && m.symbols == 9 && m.relocations == 20 && m.ids == 4);
     EXPECT(m.entry.section == 2 && m.entry.address == 0x200001d0);
     EXPECT(m.toc.section == 2 && m.toc.address == 0x200001e0);
-    EXPECT(s.number == 0 && s.value == 0 && s.scnum == 0 && s.smtype == 0x40);
+    EXPECT(ACCEPTED(s) && s.value == 0 && s.scnum == 0 && s.smtype == 0x40);
     EXPECT(s.smclas == 10 && s.ifile == 2 && s.parm == 0);
     EXPECT(is(xcoff_loader_symbol_name(file, length, 5), "a_function_with_a_long_name"));
     EXPECT(is(xcoff_import_path(file, length, 2), "/usr/lib"));
     EXPECT(is(xcoff_import_base(file, length, 2), "libexample.a"));
     EXPECT(is(xcoff_import_member(file, length, 2), "shr_64.o"));
+}
+
+/* Bytes set to a value, and what the module is then refused with. The section headers start at 92, the loader section at
+   512, its 9 symbols at 544, its entries at 760. */
+static const struct damage {
+    size_t at, count;
+    uint8_t value;
+    uint64_t number, item, offset;
+} damages[] = {
+    {132 + 39, 1, 0x41, 4, 2, 132},         /* flags of section 2 */
+    {92 + 20, 1, 0x7f, 5, 1, 92},           /* raw data of section 1 */
+    {172 + 12, 1, 0x21, 6, 3, 172},         /* address of section 3 */
+    {8, 4, 0xff, 5, 0, 0},                  /* the symbol table */
+    {20 + 34, 2, 0, 13, 2, 0},              /* the auxiliary header's section of text */
+    {512 + 3, 1, 3, 15, 1, 512},            /* version of the loader section */
+    {512 + 6, 1, 0x10, 3, 2, 512},          /* its symbols */
+    {512 + 10, 1, 0x10, 3, 3, 512},         /* its relocation entries */
+    {512 + 12, 1, 0x7f, 15, 4, 512},        /* its import ids */
+    {544 + 2 * 24 + 14, 1, 4, 16, 5, 592},  /* type of loader symbol 5 */
+    {760 + 3 * 12 + 9, 1, 2, 17, 3, 796},   /* type of entry 3 */
+    {760 + 3 * 12 + 4, 4, 0xff, 14, 3, 796} /* symbol of entry 3 */
+};
+
+static void offsets(void)
+{
+    uint8_t kept[4];
+    xcoff_module_answer m;
+    xcoff_open_answer o;
+    size_t i, strings = symbol_at(60);
+    for (i = 0; i < sizeof damages / sizeof damages[0]; i++) {
+        struct damage d = damages[i];
+        memcpy(kept, file + d.at, d.count);
+        memset(file + d.at, d.value, d.count);
+        m = xcoff_module(file, length);
+        EXPECT(REFUSED(m, d.number, d.item, d.offset) && m.bits == 0);
+        EXPECT(SAME_HEAD(m, xcoff_loader_symbol(file, length, 3)));
+        EXPECT(SAME_HEAD(m, xcoff_import_path(file, length, 0)));
+        EXPECT(SAME_HEAD(m, xcoff_build(file, length, 0, 0, NULL, 0, NULL, 0, NULL, 0)));
+        EXPECT(SAME_HEAD(m, xcoff_relocation_table(file, length, NULL, 0)));
+        memcpy(file + d.at, kept, d.count);
+    }
+    memcpy(kept, file + strings, 4);
+    memcpy(file + strings, "\0\0\0\3", 4);
+    o = xcoff_open(file, length);
+    EXPECT(REFUSED(o, 7, 0, strings) && o.bits == 0);
+    memcpy(file + strings, kept, 4);
+    EXPECT(ACCEPTED(xcoff_module(file, length)));
 }
 
 /* A build at the recorded addresses and a move by 1000 hex; the list cut short, with all or the last refused, and empty. */
@@ -115,19 +169,19 @@ static void list_of_calls(const uint64_t *list, const uint8_t *built_text, const
         memcpy(plan + 3, list, 9 * sizeof list[0]);
     }
     r = xcoff_replay(file, length, script, 38, text, sizeof text, data, sizeof data);
-    EXPECT(r.number == 0 && r.item == 0 && r.calls == 2 && r.accepted == 2);
+    EXPECT(ACCEPTED(r) && r.calls == 2 && r.accepted == 2);
     EXPECT(r.has_entry == 1 && r.entry == 0x200011d0 && r.has_toc == 1 && r.toc == 0x200011e0);
     EXPECT(memcmp(text, built_text, sizeof text) == 0 && memcmp(data, built_data, sizeof data) == 0);
     r = xcoff_replay(file, length, script, 37, text, sizeof text, data, sizeof data);
-    EXPECT(r.number == 0 && r.calls == 1 && r.accepted == 1 && r.entry == 0x200001d0 && r.toc == 0x200001e0);
+    EXPECT(ACCEPTED(r) && r.calls == 1 && r.accepted == 1 && r.entry == 0x200001d0 && r.toc == 0x200001e0);
     r = xcoff_replay(file, length, script, 38, text, sizeof text - 1, data, sizeof data);
-    EXPECT(refused(r.number, r.item, 20, 0) && r.calls == 2 && r.accepted == 0);
+    EXPECT(REFUSED(r, 20, 0, 0) && r.calls == 2 && r.accepted == 0);
     EXPECT(r.has_entry == 0 && r.entry == 0 && r.has_toc == 0 && r.toc == 0);
     script[26] = UINT64_MAX;
     r = xcoff_replay(file, length, script, 38, text, sizeof text, data, sizeof data);
-    EXPECT(refused(r.number, r.item, 19, 0) && r.calls == 2 && r.accepted == 1 && r.has_entry == 0);
+    EXPECT(REFUSED(r, 19, 0, 0) && r.calls == 2 && r.accepted == 1 && r.has_entry == 0);
     r = xcoff_replay(file, length, NULL, 0, text, sizeof text, data, sizeof data);
-    EXPECT(r.number == 0 && r.item == 0 && r.has_entry == 0 && r.has_toc == 0 && r.calls == 0 && r.accepted == 0);
+    EXPECT(ACCEPTED(r) && r.has_entry == 0 && r.has_toc == 0 && r.calls == 0 && r.accepted == 0);
 }
 
 /* Built at the recorded addresses, moved by 1000 hex, and both at once by a list of calls; then the plan's sheet. */
@@ -141,23 +195,23 @@ static void images(void)
     for (i = 0; i < 9; i++)
         list[i] = xcoff_loader_symbol(file, length, 3 + i).value;
     b = xcoff_build(file, length, 0x10000100, 0x200001a0, list, 9, text, sizeof text, data, sizeof data);
-    EXPECT(b.number == 0 && b.has_entry == 1 && b.entry == 0x200001d0 && b.has_toc == 1 && b.toc == 0x200001e0);
+    EXPECT(ACCEPTED(b) && b.has_entry == 1 && b.entry == 0x200001d0 && b.has_toc == 1 && b.toc == 0x200001e0);
     m = xcoff_move(file, length, 0x10000100, 0x200001a0, list, 9, 0x10001100, 0x200011a0, list, 9, text, sizeof text, data,
                    sizeof data);
-    EXPECT(m.number == 0 && m.entry == 0x200011d0 && m.toc == 0x200011e0);
+    EXPECT(ACCEPTED(m) && m.entry == 0x200011d0 && m.toc == 0x200011e0);
     m = xcoff_move(file, length, 0x10000100, 0x200001a0, list, 9, 0x10001100, 0x200011a0, list, 9, text, sizeof text - 1,
                    data, sizeof data);
-    EXPECT(refused(m.number, m.item, 20, 0) && m.has_entry == 0);
+    EXPECT(REFUSED(m, 20, 0, 0) && m.has_entry == 0);
 
     list_of_calls(list, text, data);
 
     EXPECT(xcoff_write_sheet(1, 2, list, 9, sheet, sizeof sheet).number == 0);
     s = xcoff_sheet_head(sheet, sizeof sheet);
-    EXPECT(s.number == 0 && s.text == 1 && s.data == 2 && s.count == 9);
+    EXPECT(ACCEPTED(s) && s.text == 1 && s.data == 2 && s.count == 9);
     s = xcoff_read_sheet(sheet, sizeof sheet, back, 9);
-    EXPECT(s.number == 0 && memcmp(list, back, sizeof list) == 0);
+    EXPECT(ACCEPTED(s) && memcmp(list, back, sizeof list) == 0);
     s = xcoff_read_sheet(sheet, sizeof sheet, back, 8);
-    EXPECT(refused(s.number, s.item, 20, 2));
+    EXPECT(REFUSED(s, 20, 2, 0));
 }
 
 static uint8_t image_text[0xa0], image_data[0xa0], written[805];
@@ -191,15 +245,15 @@ static void records_written(void)
         plan_list[i] = xcoff_loader_symbol(file, length, 3 + i).value;
     xcoff_build(file, length, 0x10000, 0x80000, plan_list, 9, image_text, 0xa0, image_data, 0xa0);
     n = xcoff_records_length(file, length, 0x10000, 0x80000, plan_list, 9);
-    EXPECT(n.number == 0 && n.item == 0 && n.length == sizeof written);
+    EXPECT(ACCEPTED(n) && n.length == sizeof written);
     v = write_at(0x80000, sizeof written - 1);
-    EXPECT(refused(v.number, v.item, 20, 0) && all_are(written, sizeof written, 0));
+    EXPECT(REFUSED(v, 20, 0, 0) && all_are(written, sizeof written, 0));
     v = write_at(0x1009f, sizeof written);
-    EXPECT(refused(v.number, v.item, 24, 0) && all_are(written, sizeof written, 0));
+    EXPECT(REFUSED(v, 24, 0, 0) && all_are(written, sizeof written, 0));
     n = xcoff_records_length(file, length, 0x10000, 0x1009f, plan_list, 9);
-    EXPECT(refused(n.number, n.item, 24, 0) && n.length == 0);
+    EXPECT(REFUSED(n, 24, 0, 0) && n.length == 0);
     v = write_at(0x80000, sizeof written);
-    EXPECT(v.number == 0 && v.item == 0);
+    EXPECT(ACCEPTED(v));
     EXPECT(memcmp(written, "S325000100007C0802A64800002D8041001448000049", 44) == 0);
     EXPECT(memcmp(written + 5 * 79, "S32500080000", 12) == 0 && memcmp(written + 790, "S70500080030C2\n", 15) == 0);
 }
@@ -209,20 +263,20 @@ static void records_read(void)
 {
     static uint8_t text[0xa0], data[0xa0], longer[806];
     xcoff_verdict v = read_from(written, sizeof written, text, data);
-    EXPECT(v.number == 0 && v.item == 0);
+    EXPECT(ACCEPTED(v));
     EXPECT(memcmp(text, image_text, sizeof text) == 0 && memcmp(data, image_data, sizeof data) == 0);
     memset(text, 1, sizeof text);
     memset(data, 1, sizeof data);
     memcpy(longer, written, sizeof written);
     v = read_from(longer, sizeof longer, text, data);
-    EXPECT(refused(v.number, v.item, 22, 12));
+    EXPECT(REFUSED(v, 22, 12, 0));
     v = read_from(longer, sizeof written - 1, text, data);
-    EXPECT(refused(v.number, v.item, 22, 11));
+    EXPECT(REFUSED(v, 22, 11, 0));
     longer[6 * 79 + 20] ^= 1;
     v = read_from(longer, sizeof written, text, data);
-    EXPECT(refused(v.number, v.item, 22, 7));
+    EXPECT(REFUSED(v, 22, 7, 0));
     v = read_from(NULL, 0, text, data);
-    EXPECT(refused(v.number, v.item, 22, 1));
+    EXPECT(REFUSED(v, 22, 1, 0));
     EXPECT(all_are(text, sizeof text, 1) && all_are(data, sizeof data, 1));
 }
 
@@ -232,9 +286,9 @@ static void symbol_rows(void)
     static xcoff_symbol_row rows[30];
     uint64_t i;
     xcoff_walk_answer w = xcoff_symbol_table(file, length, (uint64_t *)rows, 30 * 15 - 1);
-    EXPECT(refused(w.number, w.item, 20, 0) && w.visited == 0 && rows[0].sclass == 0);
+    EXPECT(REFUSED(w, 20, 0, 0) && w.visited == 0 && rows[0].sclass == 0);
     w = xcoff_symbol_table(file, length, (uint64_t *)rows, 30 * 15);
-    EXPECT(w.number == 0 && w.visited == 30 && w.end == 60 && w.cause.number == 0);
+    EXPECT(ACCEPTED(w) && w.visited == 30 && w.end == 60 && ACCEPTED(w.cause));
     for (i = 0; i < 30; i++) {
         xcoff_symbol_answer y = xcoff_symbol(file, length, rows[i].index);
         xcoff_csect_answer c = xcoff_csect(file, length, rows[i].index);
@@ -247,7 +301,7 @@ static void symbol_rows(void)
         EXPECT(rows[i].has_visibility == y.has_visibility && rows[i].visibility == y.visibility);
         EXPECT(rows[i].csect == c.number && rows[i].csect_type == c.type && rows[i].align == c.align);
         EXPECT(rows[i].smclas == c.smclas && rows[i].length == c.length);
-        EXPECT(n.number == 0 && rows[i].name == n.offset && name_length == n.length);
+        EXPECT(ACCEPTED(n) && rows[i].name == n.start && name_length == n.length);
     }
 }
 
@@ -261,28 +315,28 @@ static void module_rows(void)
     uint64_t i;
     EXPECT(m.symbols == 9 && m.ids <= 8 && m.relocations <= 64);
     v = xcoff_loader_symbol_table(file, length, (uint64_t *)symbols, 9 * m.symbols);
-    EXPECT(v.number == 0 && v.item == 0);
+    EXPECT(ACCEPTED(v));
     for (i = 0; i < m.symbols; i++) {
         xcoff_loader_symbol_answer y = xcoff_loader_symbol(file, length, i + 3);
         xcoff_name_answer n = xcoff_loader_symbol_name(file, length, i + 3);
         EXPECT(symbols[i].index == i + 3 && symbols[i].value == y.value && symbols[i].scnum == y.scnum);
         EXPECT(symbols[i].smtype == y.smtype && symbols[i].smclas == y.smclas && symbols[i].ifile == y.ifile);
-        EXPECT(symbols[i].parm == y.parm && symbols[i].name == n.offset && symbols[i].name_length == n.length);
+        EXPECT(symbols[i].parm == y.parm && symbols[i].name == n.start && symbols[i].name_length == n.length);
     }
     v = xcoff_import_table(file, length, (uint64_t *)ids, 6 * m.ids);
-    EXPECT(v.number == 0 && v.item == 0);
+    EXPECT(ACCEPTED(v));
     for (i = 0; i < m.ids; i++) {
         xcoff_name_answer path = xcoff_import_path(file, length, i);
         xcoff_name_answer base = xcoff_import_base(file, length, i);
         xcoff_name_answer member = xcoff_import_member(file, length, i);
-        EXPECT(ids[i].path == path.offset && ids[i].path_length == path.length);
-        EXPECT(ids[i].base == base.offset && ids[i].base_length == base.length);
-        EXPECT(ids[i].member == member.offset && ids[i].member_length == member.length);
+        EXPECT(ids[i].path == path.start && ids[i].path_length == path.length);
+        EXPECT(ids[i].base == base.start && ids[i].base_length == base.length);
+        EXPECT(ids[i].member == member.start && ids[i].member_length == member.length);
     }
     v = xcoff_relocation_table(file, length, (uint64_t *)entries, 8 * m.relocations + 1);
-    EXPECT(refused(v.number, v.item, 20, 0) && entries[0].width == 0);
+    EXPECT(REFUSED(v, 20, 0, 0) && entries[0].width == 0);
     v = xcoff_relocation_table(file, length, (uint64_t *)entries, 8 * m.relocations);
-    EXPECT(v.number == 0 && v.item == 0);
+    EXPECT(ACCEPTED(v));
     for (i = 0; i < m.relocations; i++) {
         xcoff_part part = entries[i].in_text ? m.text : m.data;
         EXPECT(entries[i].scnum == part.number && entries[i].address == part.address + entries[i].offset);
@@ -296,9 +350,9 @@ static void nothing(void)
     xcoff_open_answer o = xcoff_open(NULL, 0);
     xcoff_module_answer m = xcoff_module(NULL, 0);
     xcoff_name_answer n = xcoff_import_path(NULL, 0, UINT64_MAX);
-    EXPECT(refused(o.number, o.item, 1, 0) && o.bits == 0);
-    EXPECT(refused(m.number, m.item, 1, 0) && m.toc.address == 0);
-    EXPECT(refused(n.number, n.item, 1, 0) && n.length == 0);
+    EXPECT(REFUSED(o, 1, 0, 0) && o.bits == 0);
+    EXPECT(REFUSED(m, 1, 0, 0) && m.toc.address == 0);
+    EXPECT(REFUSED(n, 1, 0, 0) && n.length == 0);
     EXPECT(xcoff_symbol_table(NULL, 0, NULL, 0).number == 1);
     EXPECT(xcoff_relocation_table(NULL, 0, NULL, 0).number == 1);
     EXPECT(xcoff_records_length(NULL, 0, 0, 0, NULL, 0).number == 1);
@@ -319,6 +373,7 @@ int main(int argc, char **argv)
     symbols();
     visibilities();
     module();
+    offsets();
     images();
     records_written();
     records_read();

@@ -7,20 +7,22 @@ LISTING holds what `llvm-readobj --file-headers --sections FILE` prints, once or
 (then all must agree); other text in it is passed over. Only facts that llvm-readobj printed
 are used: magic, number of symbol entries, and of each section its type flag, physical
 address and size. A file that is refused at opening has its line in REFUSED, written by
-hand from the scope document; the script stops if a listing shows a cause to refuse and the
-name is not there.
+hand from the scope document, with the place of the header that is named: 20 (24) bytes of
+file header, 72 (120) of auxiliary header as the listing shows it, and 40 (72) for each
+section before. The script stops if a listing shows a cause to refuse and the name is not
+there.
 """
 import os
 import re
 import sys
 
-# By name without -32 or -64, with what the listing shows.
+# By name without -32 or -64: the line in XCOFF32 and in XCOFF64, and what the listing shows.
 REFUSED = {
-    "exe-oldmagic": "refused 2 0",      # magic 01EF; llvm-readobj and objdump refuse it too
-    "objcopy-badkind": "refused 4 5",   # section 5 has type 0x8020, two kinds
-    "objcopy-lma": "refused 6 2",       # section 2, data: physical and virtual address differ
-    "shr-topquirk": "refused 6 1",      # section 1, data: address + size passes 2^32 (2^64)
-    "yaml-sections33": "refused 3 1",   # 33 sections
+    "exe-oldmagic": ("refused 2 0 0", "refused 2 0 0"),         # magic 01EF; llvm-readobj and objdump refuse it too
+    "objcopy-badkind": ("refused 4 5 252", "refused 4 5 432"),  # section 5 has type 0x8020, two kinds
+    "objcopy-lma": ("refused 6 2 132", "refused 6 2 216"),      # section 2, data: physical and virtual address differ
+    "shr-topquirk": ("refused 6 1 92", "refused 6 1 144"),      # section 1, data: address + size passes 2^32 (2^64)
+    "yaml-sections33": ("refused 3 1 0", "refused 3 1 0"),      # 33 sections
 }
 
 FORMATS = {0x1DF: ("XCOFF32", 8), 0x1F7: ("XCOFF64", 16)}     # name, address digits
@@ -78,7 +80,7 @@ def main():
     name = os.path.splitext(os.path.basename(sys.argv[1]))[0]
     stem = re.sub(r"-(32|64)$", "", name)
     if stem in REFUSED:
-        print(REFUSED[stem])
+        print(REFUSED[stem][name.endswith("-64")])
         return
     with open(sys.argv[1], encoding="latin-1") as f:
         texts = {expected(*table) for table in tables(f.read())}

@@ -4,8 +4,10 @@
 usage: make.py [DIRECTORY]     (without one: the directory of this script)
 
 Every expected text below is written by hand from the scope document ("Numbers given
-back", "Opening", "Header lister"); no program computed it. For each NAME the script writes
-NAME.xcoff (the input) and NAME.txt (the text). Running it again gives the same bytes.
+back", "Opening", "Header lister") and from request 4, which gives a refusal its third number:
+where the header of the section lies that is named, or the string table. No reader of such
+files computed it. For each NAME the script writes NAME.xcoff (the input) and NAME.txt (the
+text). Running it again gives the same bytes.
 
 All header bytes that opening does not look at hold EE, so that a reader that takes a
 wrong place shows. Only the document's own example has zeros there.
@@ -62,6 +64,12 @@ def both(name, build, want32, want64=None):
     """One case in each format; build takes 32 or 64. One text: the same for both."""
     case(name + "-32", build(32), want32)
     case(name + "-64", build(64), want32 if want64 is None else want64)
+
+
+def named(number, section, opthdr=(0, 0)):
+    """A refusal that names a section, in both formats, with the place of its header."""
+    return ["refused %d %d %d\n" % (number, section, end(bits, section - 1) + extra)
+            for bits, extra in zip((32, 64), opthdr)]
 
 
 # ---------------------------------------------------------------- the document's example
@@ -524,32 +532,32 @@ XCOFF64 1 1
 
 # ---------------------------------------------------------------- 1 SHORT, item 0
 
-case("short-0-bytes", b"", "refused 1 0\n")
-case("short-1-byte", b"\x01", "refused 1 0\n")
-case("short-1-byte-no-magic", b"\x7f", "refused 1 0\n")
-case("short-2-bytes-32", xcoff(32)[:2], "refused 1 0\n")
-case("short-2-bytes-64", xcoff(64)[:2], "refused 1 0\n")
-case("short-19-bytes-32", xcoff(32)[:19], "refused 1 0\n")
-case("short-20-bytes-64", xcoff(64)[:20], "refused 1 0\n")
-case("short-23-bytes-64", xcoff(64)[:23], "refused 1 0\n")
-both("short-headers", lambda b: xcoff(b, sec(TEXT))[:-1], "refused 1 0\n")
-both("short-32-headers", lambda b: xcoff(b, *[sec(INFO)] * 32)[:-1], "refused 1 0\n")
-both("short-opthdr", lambda b: xcoff(b, sec(TEXT), opthdr=72)[:-1], "refused 1 0\n")
-both("short-opthdr-alone", lambda b: xcoff(b, opthdr=1)[:-1], "refused 1 0\n")
-both("short-opthdr-ffff", lambda b: xcoff(b, opthdr=0xFFFF)[:end(b, 0) + 8], "refused 1 0\n")
+case("short-0-bytes", b"", "refused 1 0 0\n")
+case("short-1-byte", b"\x01", "refused 1 0 0\n")
+case("short-1-byte-no-magic", b"\x7f", "refused 1 0 0\n")
+case("short-2-bytes-32", xcoff(32)[:2], "refused 1 0 0\n")
+case("short-2-bytes-64", xcoff(64)[:2], "refused 1 0 0\n")
+case("short-19-bytes-32", xcoff(32)[:19], "refused 1 0 0\n")
+case("short-20-bytes-64", xcoff(64)[:20], "refused 1 0 0\n")
+case("short-23-bytes-64", xcoff(64)[:23], "refused 1 0 0\n")
+both("short-headers", lambda b: xcoff(b, sec(TEXT))[:-1], "refused 1 0 0\n")
+both("short-32-headers", lambda b: xcoff(b, *[sec(INFO)] * 32)[:-1], "refused 1 0 0\n")
+both("short-opthdr", lambda b: xcoff(b, sec(TEXT), opthdr=72)[:-1], "refused 1 0 0\n")
+both("short-opthdr-alone", lambda b: xcoff(b, opthdr=1)[:-1], "refused 1 0 0\n")
+both("short-opthdr-ffff", lambda b: xcoff(b, opthdr=0xFFFF)[:end(b, 0) + 8], "refused 1 0 0\n")
 
 # ---------------------------------------------------------------- 2 MAGIC, item 0
 
 for magic in (0x0000, 0x01DE, 0x01EF, 0x01F8, 0x02DF, 0xDF01, 0xF701):
-    case("magic-%04x" % magic, xcoff(64, sec(TEXT), magic=magic), "refused 2 0\n")
-case("magic-01ef-2-bytes", b"\x01\xef", "refused 2 0\n")
-case("magic-00df-19-bytes", xcoff(32, magic=0x00DF)[:19], "refused 2 0\n")
+    case("magic-%04x" % magic, xcoff(64, sec(TEXT), magic=magic), "refused 2 0 0\n")
+case("magic-01ef-2-bytes", b"\x01\xef", "refused 2 0 0\n")
+case("magic-00df-19-bytes", xcoff(32, magic=0x00DF)[:19], "refused 2 0 0\n")
 
 # ---------------------------------------------------------------- 3 LIMIT, item 1 sections
 
-both("limit-33", lambda b: xcoff(b, *[sec(INFO)] * 33), "refused 3 1\n")
-both("limit-32768", lambda b: xcoff(b, sec(INFO), count=0x8000), "refused 3 1\n")
-both("limit-65535", lambda b: xcoff(b, sec(INFO), count=0xFFFF), "refused 3 1\n")
+both("limit-33", lambda b: xcoff(b, *[sec(INFO)] * 33), "refused 3 1 0\n")
+both("limit-32768", lambda b: xcoff(b, sec(INFO), count=0x8000), "refused 3 1 0\n")
+both("limit-65535", lambda b: xcoff(b, sec(INFO), count=0xFFFF), "refused 3 1 0\n")
 
 # ---------------------------------------------------------------- 4 KIND, item the section
 
@@ -561,11 +569,15 @@ for flags in (
         0x00020030,                                         # dwarf's high half, two kinds
         0x00010020, 0x00010080, 0x00011000,                 # high half not 0
         0x80000400, 0xFFFF8000, 0x00010008):
-    both("kind-%08x" % flags, lambda b: xcoff(b, sec(flags)), "refused 4 1\n")
+    both("kind-%08x" % flags, lambda b: xcoff(b, sec(flags)), *named(4, 1))
 
-both("kind-second", lambda b: xcoff(b, sec(TEXT), sec(0x60), sec(DATA)), "refused 4 2\n")
-both("kind-32nd", lambda b: xcoff(b, *[sec(INFO)] * 31, sec(0)), "refused 4 32\n")
-both("kind-after-deleted", lambda b: xcoff(b, sec(DELETED), sec(0xFFFF), sec(0)), "refused 4 2\n")
+both("kind-second", lambda b: xcoff(b, sec(TEXT), sec(0x60), sec(DATA)), *named(4, 2))
+both("kind-32nd", lambda b: xcoff(b, *[sec(INFO)] * 31, sec(0)), *named(4, 32))
+both("kind-after-deleted", lambda b: xcoff(b, sec(DELETED), sec(0xFFFF), sec(0)), *named(4, 2))
+# The section headers, and so their places, come after the auxiliary header.
+both("kind-opthdr", lambda b: xcoff(b, sec(TEXT), sec(0), opthdr={32: 72, 64: 120}[b]),
+     *named(4, 2, (72, 120)))
+both("kind-opthdr-odd", lambda b: xcoff(b, sec(0), opthdr=1), *named(4, 1, (1, 1)))
 
 # ---------------------------------------------------------------- 5 BOUNDS, item the section
 
@@ -575,28 +587,28 @@ def raw(bits, ptr, size, kind=INFO):
     return xcoff(bits, sec(kind, 0, size, ptr), tail=bytes(4))
 
 
-both("bounds-raw-one-past", lambda b: raw(b, end(b, 1), 5), "refused 5 1\n")
-both("bounds-raw-one-past-late", lambda b: raw(b, end(b, 1) + 4, 1), "refused 5 1\n")
-both("bounds-pointer-past", lambda b: raw(b, end(b, 1) + 5, 0), "refused 5 1\n")
-both("bounds-pointer-half", lambda b: raw(b, TOP[b] // 2, 0), "refused 5 1\n")
-both("bounds-sum-top", lambda b: raw(b, TOP[b] - 16, 16), "refused 5 1\n")
-both("bounds-sum-past-top", lambda b: raw(b, TOP[b] - 16, 32), "refused 5 1\n")
-both("bounds-size-largest", lambda b: raw(b, 16, TOP[b] - 1), "refused 5 1\n")
-case("bounds-pointer-high-half-64", raw(64, 2**32, 0), "refused 5 1\n")
-case("bounds-size-high-half-64", raw(64, 96, 2**32), "refused 5 1\n")
+both("bounds-raw-one-past", lambda b: raw(b, end(b, 1), 5), *named(5, 1))
+both("bounds-raw-one-past-late", lambda b: raw(b, end(b, 1) + 4, 1), *named(5, 1))
+both("bounds-pointer-past", lambda b: raw(b, end(b, 1) + 5, 0), *named(5, 1))
+both("bounds-pointer-half", lambda b: raw(b, TOP[b] // 2, 0), *named(5, 1))
+both("bounds-sum-top", lambda b: raw(b, TOP[b] - 16, 16), *named(5, 1))
+both("bounds-sum-past-top", lambda b: raw(b, TOP[b] - 16, 32), *named(5, 1))
+both("bounds-size-largest", lambda b: raw(b, 16, TOP[b] - 1), *named(5, 1))
+case("bounds-pointer-high-half-64", raw(64, 2**32, 0), "refused 5 1 24\n")
+case("bounds-size-high-half-64", raw(64, 96, 2**32), "refused 5 1 24\n")
 both("bounds-second", lambda b: xcoff(
-    b, sec(TEXT), sec(DATA, 0x20000000, 4, end(b, 3) - 3), sec(0)), "refused 5 2\n")
+    b, sec(TEXT), sec(DATA, 0x20000000, 4, end(b, 3) - 3), sec(0)), *named(5, 2))
 
 # Every kind with raw data, some in one format and some in the other.
-case("bounds-pad-32", raw(32, 60, 5, PAD), "refused 5 1\n")
-case("bounds-dwarf-64", raw(64, 96, 5, DWARF), "refused 5 1\n")
-case("bounds-text-32", raw(32, 60, 5, TEXT), "refused 5 1\n")
-case("bounds-data-64", raw(64, 96, 5, DATA), "refused 5 1\n")
-case("bounds-except-32", raw(32, 60, 5, EXCEPT), "refused 5 1\n")
-case("bounds-tdata-64", raw(64, 96, 5, TDATA), "refused 5 1\n")
-case("bounds-loader-32", raw(32, 60, 5, LOADER), "refused 5 1\n")
-case("bounds-debug-64", raw(64, 96, 5, DEBUG), "refused 5 1\n")
-case("bounds-typchk-32", raw(32, 60, 5, TYPCHK), "refused 5 1\n")
+case("bounds-pad-32", raw(32, 60, 5, PAD), "refused 5 1 20\n")
+case("bounds-dwarf-64", raw(64, 96, 5, DWARF), "refused 5 1 24\n")
+case("bounds-text-32", raw(32, 60, 5, TEXT), "refused 5 1 20\n")
+case("bounds-data-64", raw(64, 96, 5, DATA), "refused 5 1 24\n")
+case("bounds-except-32", raw(32, 60, 5, EXCEPT), "refused 5 1 20\n")
+case("bounds-tdata-64", raw(64, 96, 5, TDATA), "refused 5 1 24\n")
+case("bounds-loader-32", raw(32, 60, 5, LOADER), "refused 5 1 20\n")
+case("bounds-debug-64", raw(64, 96, 5, DEBUG), "refused 5 1 24\n")
+case("bounds-typchk-32", raw(32, 60, 5, TYPCHK), "refused 5 1 20\n")
 
 # ---------------------------------------------------------------- 5 BOUNDS, item 0: symbols
 
@@ -605,55 +617,62 @@ def symbols(bits, symptr, nsyms, tail=b""):
     return xcoff(bits, sec(TEXT, 0x10000000, 0), symptr=symptr, nsyms=nsyms, tail=tail)
 
 
-both("bounds-symbols-one-past", lambda b: symbols(b, end(b, 1), 1, bytes(17)), "refused 5 0\n")
-both("bounds-symbols-at-end", lambda b: symbols(b, end(b, 1), 1), "refused 5 0\n")
-both("bounds-symbols-pointer-past", lambda b: symbols(b, end(b, 1) + 1, 1), "refused 5 0\n")
+both("bounds-symbols-one-past", lambda b: symbols(b, end(b, 1), 1, bytes(17)), "refused 5 0 0\n")
+both("bounds-symbols-at-end", lambda b: symbols(b, end(b, 1), 1), "refused 5 0 0\n")
+both("bounds-symbols-pointer-past", lambda b: symbols(b, end(b, 1) + 1, 1), "refused 5 0 0\n")
 # A sum that drops 2^32 (2^64) would end the table exactly at the file's end.
-both("bounds-symbols-sum", lambda b: symbols(b, TOP[b] - 12, {32: 4, 64: 6}[b]), "refused 5 0\n")
+both("bounds-symbols-sum", lambda b: symbols(b, TOP[b] - 12, {32: 4, 64: 6}[b]), "refused 5 0 0\n")
 # So would 18 times the count without what passes 2^32: 14 bytes, 0 bytes.
-both("bounds-symbols-product", lambda b: symbols(b, end(b, 1) - 14, 0x0E38E38F), "refused 5 0\n")
-both("bounds-symbols-80000000", lambda b: symbols(b, end(b, 1), 0x80000000), "refused 5 0\n")
-both("bounds-symbols-ffffffff", lambda b: symbols(b, 20, 0xFFFFFFFF), "refused 5 0\n")
-case("bounds-symbols-high-half-64", symbols(64, 2**32 + 96, 1, bytes(18)), "refused 5 0\n")
+both("bounds-symbols-product", lambda b: symbols(b, end(b, 1) - 14, 0x0E38E38F), "refused 5 0 0\n")
+both("bounds-symbols-80000000", lambda b: symbols(b, end(b, 1), 0x80000000), "refused 5 0 0\n")
+both("bounds-symbols-ffffffff", lambda b: symbols(b, 20, 0xFFFFFFFF), "refused 5 0 0\n")
+case("bounds-symbols-high-half-64", symbols(64, 2**32 + 96, 1, bytes(18)), "refused 5 0 0\n")
 
 # ---------------------------------------------------------------- 5 BOUNDS, item 0: strings
 
-both("bounds-strings-1-left", lambda b: strings(b, b"\x00"), "refused 5 0\n")
-both("bounds-strings-2-left", lambda b: strings(b, b"\x00\x00"), "refused 5 0\n")
-both("bounds-strings-3-left", lambda b: strings(b, b"\x00\x00\x00"), "refused 5 0\n")
-both("bounds-strings-length-5", lambda b: strings(b, b"\x00\x00\x00\x05"), "refused 5 0\n")
-both("bounds-strings-length-8", lambda b: strings(b, b"\x00\x00\x00\x08ab\x00"), "refused 5 0\n")
-both("bounds-strings-80000000", lambda b: strings(b, b"\x80\x00\x00\x00"), "refused 5 0\n")
-both("bounds-strings-ffffffff", lambda b: strings(b, b"\xff\xff\xff\xff"), "refused 5 0\n")
+both("bounds-strings-1-left", lambda b: strings(b, b"\x00"), "refused 5 0 0\n")
+both("bounds-strings-2-left", lambda b: strings(b, b"\x00\x00"), "refused 5 0 0\n")
+both("bounds-strings-3-left", lambda b: strings(b, b"\x00\x00\x00"), "refused 5 0 0\n")
+both("bounds-strings-length-5", lambda b: strings(b, b"\x00\x00\x00\x05"), "refused 5 0 0\n")
+both("bounds-strings-length-8", lambda b: strings(b, b"\x00\x00\x00\x08ab\x00"), "refused 5 0 0\n")
+both("bounds-strings-80000000", lambda b: strings(b, b"\x80\x00\x00\x00"), "refused 5 0 0\n")
+both("bounds-strings-ffffffff", lambda b: strings(b, b"\xff\xff\xff\xff"), "refused 5 0 0\n")
 
 # ---------------------------------------------------------------- 6 ADDRESS, item the section
 
 both("address-differs-text", lambda b: xcoff(
-    b, sec(TEXT, 0x10000000, 0, vaddr=0x10000001)), "refused 6 1\n")
+    b, sec(TEXT, 0x10000000, 0, vaddr=0x10000001)), *named(6, 1))
 both("address-differs-data", lambda b: xcoff(
-    b, sec(DATA, 0x20000000, 0, vaddr=0x1FFFFFFF)), "refused 6 1\n")
+    b, sec(DATA, 0x20000000, 0, vaddr=0x1FFFFFFF)), *named(6, 1))
 both("address-differs-bss", lambda b: xcoff(
-    b, sec(BSS, 0x30000000, 0, vaddr=0)), "refused 6 1\n")
+    b, sec(BSS, 0x30000000, 0, vaddr=0)), *named(6, 1))
 both("address-differs-high-bit", lambda b: xcoff(
-    b, sec(TEXT, 0x10000000, 0, vaddr=TOP[b] // 2 + 0x10000000)), "refused 6 1\n")
+    b, sec(TEXT, 0x10000000, 0, vaddr=TOP[b] // 2 + 0x10000000)), *named(6, 1))
 # address + size one past 2^32 (2^64).
-both("address-top-text", lambda b: xcoff(b, sec(TEXT, TOP[b] - 15, 16)), "refused 6 1\n")
-both("address-top-data", lambda b: xcoff(b, sec(DATA, TOP[b] - 1, 2)), "refused 6 1\n")
-both("address-top-bss", lambda b: xcoff(b, sec(BSS, 2, TOP[b] - 1)), "refused 6 1\n")
-both("address-top-largest", lambda b: xcoff(b, sec(TEXT, TOP[b] - 1, TOP[b] - 1)), "refused 6 1\n")
+both("address-top-text", lambda b: xcoff(b, sec(TEXT, TOP[b] - 15, 16)), *named(6, 1))
+both("address-top-data", lambda b: xcoff(b, sec(DATA, TOP[b] - 1, 2)), *named(6, 1))
+both("address-top-bss", lambda b: xcoff(b, sec(BSS, 2, TOP[b] - 1)), *named(6, 1))
+both("address-top-largest", lambda b: xcoff(b, sec(TEXT, TOP[b] - 1, TOP[b] - 1)), *named(6, 1))
 # A bss has no raw data to bound; its address is still judged.
 both("address-bss-with-pointer", lambda b: xcoff(
-    b, sec(BSS, TOP[b] - 16, 17, TOP[b] - 1)), "refused 6 1\n")
+    b, sec(BSS, TOP[b] - 16, 17, TOP[b] - 1)), *named(6, 1))
 both("address-second", lambda b: xcoff(
     b, sec(TEXT, 0x10000000, 0), sec(DATA, 0x20000000, 0, vaddr=0x10000000), sec(BSS)),
-    "refused 6 2\n")
+    *named(6, 2))
 
 # ---------------------------------------------------------------- 7 STRINGS, item 0
 
-both("strings-length-1", lambda b: strings(b, b"\x00\x00\x00\x01"), "refused 7 0\n")
-both("strings-length-2", lambda b: strings(b, b"\x00\x00\x00\x02"), "refused 7 0\n")
-both("strings-length-3", lambda b: strings(b, b"\x00\x00\x00\x03"), "refused 7 0\n")
-both("strings-length-3-more", lambda b: strings(b, b"\x00\x00\x00\x03more"), "refused 7 0\n")
+AFTER_ONE_ENTRY = "refused 7 0 78\n", "refused 7 0 114\n"   # 18 bytes after the headers
+
+both("strings-length-1", lambda b: strings(b, b"\x00\x00\x00\x01"), *AFTER_ONE_ENTRY)
+both("strings-length-2", lambda b: strings(b, b"\x00\x00\x00\x02"), *AFTER_ONE_ENTRY)
+both("strings-length-3", lambda b: strings(b, b"\x00\x00\x00\x03"), *AFTER_ONE_ENTRY)
+both("strings-length-3-more", lambda b: strings(b, b"\x00\x00\x00\x03more"), *AFTER_ONE_ENTRY)
+
+# A symbol table from the first byte on, over the headers: the string table follows it.
+both("strings-over-headers", lambda b: xcoff(
+    b, sec(TEXT, 0x10000000, 0), symptr=0, nsyms={32: 4, 64: 6}[b],
+    tail=bytes(12) + b"\x00\x00\x00\x02"), "refused 7 0 72\n", "refused 7 0 108\n")
 
 # ---------------------------------------------------------------- the order of refusals
 
@@ -666,36 +685,36 @@ def far(bits):
 
 
 # SHORT (file header) before LIMIT; LIMIT before SHORT (section headers) and before KIND.
-case("order-short-limit-32", xcoff(32, count=33)[:19], "refused 1 0\n")
-case("order-short-limit-64", xcoff(64, count=33)[:23], "refused 1 0\n")
-both("order-limit-short", lambda b: xcoff(b, count=33), "refused 3 1\n")
-both("order-limit-kind", lambda b: xcoff(b, *[sec(0)] * 33), "refused 3 1\n")
+case("order-short-limit-32", xcoff(32, count=33)[:19], "refused 1 0 0\n")
+case("order-short-limit-64", xcoff(64, count=33)[:23], "refused 1 0 0\n")
+both("order-limit-short", lambda b: xcoff(b, count=33), "refused 3 1 0\n")
+both("order-limit-kind", lambda b: xcoff(b, *[sec(0)] * 33), "refused 3 1 0\n")
 # SHORT before everything in the sections, and before the symbols.
-both("order-short-kind", lambda b: xcoff(b, sec(0), sec(TEXT))[:-1], "refused 1 0\n")
+both("order-short-kind", lambda b: xcoff(b, sec(0), sec(TEXT))[:-1], "refused 1 0 0\n")
 both("order-short-symbols", lambda b: xcoff(
-    b, sec(TEXT), symptr=far(b), nsyms=1)[:-1], "refused 1 0\n")
+    b, sec(TEXT), symptr=far(b), nsyms=1)[:-1], "refused 1 0 0\n")
 # In one section: KIND, BOUNDS, ADDRESS.
 both("order-kind-bounds-address", lambda b: xcoff(
-    b, sec(BAD_TEXT, TOP[b] - 1, 2, far(b), vaddr=0)), "refused 4 1\n")
+    b, sec(BAD_TEXT, TOP[b] - 1, 2, far(b), vaddr=0)), *named(4, 1))
 both("order-bounds-address", lambda b: xcoff(
-    b, sec(TEXT, TOP[b] - 1, 2, far(b), vaddr=0)), "refused 5 1\n")
+    b, sec(TEXT, TOP[b] - 1, 2, far(b), vaddr=0)), *named(5, 1))
 # All of section 1 before all of section 2.
 both("order-address1-kind2", lambda b: xcoff(
-    b, sec(TEXT, 1, 0, vaddr=0), sec(BAD_TEXT)), "refused 6 1\n")
+    b, sec(TEXT, 1, 0, vaddr=0), sec(BAD_TEXT)), *named(6, 1))
 both("order-address1-bounds2", lambda b: xcoff(
-    b, sec(BSS, TOP[b] - 1, 2), sec(INFO, 0, 0, far(b))), "refused 6 1\n")
+    b, sec(BSS, TOP[b] - 1, 2), sec(INFO, 0, 0, far(b))), *named(6, 1))
 both("order-bounds1-kind2", lambda b: xcoff(
-    b, sec(INFO, 0, 0, far(b)), sec(0)), "refused 5 1\n")
+    b, sec(INFO, 0, 0, far(b)), sec(0)), *named(5, 1))
 # All sections before symbols and strings.
 both("order-kind2-symbols", lambda b: xcoff(
-    b, sec(TEXT), sec(0), symptr=far(b), nsyms=1), "refused 4 2\n")
+    b, sec(TEXT), sec(0), symptr=far(b), nsyms=1), *named(4, 2))
 both("order-bounds2-symbols", lambda b: xcoff(
-    b, sec(TEXT), sec(DATA, 0, 0, far(b)), symptr=far(b), nsyms=1), "refused 5 2\n")
+    b, sec(TEXT), sec(DATA, 0, 0, far(b)), symptr=far(b), nsyms=1), *named(5, 2))
 both("order-address2-symbols", lambda b: xcoff(
-    b, sec(TEXT), sec(DATA, 1, 0, vaddr=2), symptr=far(b), nsyms=1), "refused 6 2\n")
+    b, sec(TEXT), sec(DATA, 1, 0, vaddr=2), symptr=far(b), nsyms=1), *named(6, 2))
 both("order-address1-strings", lambda b: xcoff(
     b, sec(DATA, 1, 0, vaddr=2), symptr=end(b, 1), nsyms=1,
-    tail=SYMBOL + b"\x00" + b"\x00\x00\x00\x02"), "refused 6 1\n")
+    tail=SYMBOL + b"\x00" + b"\x00\x00\x00\x02"), *named(6, 1))
 
 # ----------------------------------------------------------------
 

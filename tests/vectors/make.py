@@ -58,7 +58,8 @@ def name(found):
 
 
 def refused(answer):
-    return isinstance(answer, dict) and "refused" in answer and "refused %d %d" % tuple(answer["refused"][:2])
+    """Number, item and offset."""
+    return isinstance(answer, dict) and "refused" in answer and "refused %d %d %d" % tuple(answer["refused"])
 
 
 def section(s):
@@ -172,6 +173,12 @@ READ = {
 
 
 def line(case):
+    """Refusals of cases that were recorded before request 4 have no offset."""
+    text = whole_line(case)
+    return text if 4 in case["requests"] else re.sub(r"(refused \d+ \d+) \d+", r"\1", text)
+
+
+def whole_line(case):
     if case["op"] in ("build", "move", "module_calls"):
         return image_case(case)
     if case["op"].startswith("sheet"):

@@ -87,5 +87,5 @@ module _ (file : List ℕ) (i : SymbolIndex) where
   unfolding csectAt
   csect-opened o = rw (o .accepted, o .tables)
 
-  pub csect-reported : {a : CsectAnswer} → a ≡ csectAt file i → (a ≡ csectAt file i) × (reportOfCsect a ≡ csectReport file i)
-  csect-reported e = (e, ap reportOfCsect e)
+  pub csect-reported : {a : CsectAnswer} → a ≡ csectAt file i → (a ≡ csectAt file i) × (reportOfCsect file a ≡ csectReport file i)
+  csect-reported e = (e, ap (reportOfCsect file) e)

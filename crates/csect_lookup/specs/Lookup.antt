@@ -5,8 +5,7 @@ use mathlib.Core.List.{List}
 use lib.Dec.{ltb}
 use Rattle.format.specs.declared.SymbolIndex.{SymbolIndex}
 use Rattle.refusal.specs.declared.Refusal.the-variants as refusal
-use Rattle.refusal.specs.declared.Verdict.the-variants as verdict
-use Rattle.refusal.specs.Refusal.{reportHead}
+use Rattle.refusal.specs.Refusal.{acceptedHead}
 use Rattle.header.specs.Open.{openOf}
 use Rattle.symbol.specs.declared.Tables.{Tables}
 use Rattle.symbol.specs.declared.SymbolAnswer.{SymbolAnswer}
@@ -20,6 +19,7 @@ use Rattle.csect.specs.declared.CsectAnswer.the-variants.{Found, Refused}
 use Rattle.csect.specs.Csect.{ownAfter}
 use Rattle.csect_lookup.specs.declared.CsectReport.{CsectReport}
 use Rattle.refusal.specs.Order.{byVerdict}
+use Rattle.offset.specs.Report.{refusalHead}
 
 abbrev pub isSdType : CsectType → Bool
 isSdType Sd = true
@@ -63,11 +63,11 @@ typeNumber Ld = 2
 typeNumber Cm = 3
 
 -- the answer in document 01's numbers
-abbrev pub reportOfCsect : CsectAnswer → CsectReport
-reportOfCsect (Found c) =
-    record { head = reportHead verdict.Accepted; kind = typeNumber (c .kind); align = c .align; smclas = c .smclas; length = c .length }
-reportOfCsect (Refused x) =
-    record { head = reportHead (verdict.Refused x); kind = 0; align = 0; smclas = 0; length = 0 }
+abbrev pub reportOfCsect : List ℕ → CsectAnswer → CsectReport
+reportOfCsect file (Found c) =
+    record { head = acceptedHead; kind = typeNumber (c .kind); align = c .align; smclas = c .smclas; length = c .length }
+reportOfCsect file (Refused x) =
+    record { head = refusalHead file x; kind = 0; align = 0; smclas = 0; length = 0 }
 
 abbrev pub csectReport : List ℕ → SymbolIndex → CsectReport
-csectReport file i = reportOfCsect (csectAt file i)
+csectReport file i = reportOfCsect file (csectAt file i)

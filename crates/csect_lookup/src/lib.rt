@@ -73,7 +73,7 @@ pub fn csect_in(file: &[u8], t: Tables, i: SymbolIndex) -> CsectAnswer
 // The csect entry of the symbol at an index: opening's refusals, the symbol's own, then CSECT.
 pub fn csect_at(file: &[u8], i: SymbolIndex) -> CsectAnswer
     ensures cause { λ r. ⌜ r ≡ csectAt (now (file .entry)) i ⌝ }
-    ensures report { λ r. ⌜ reportOfCsect r ≡ csectReport (now (file .entry)) i ⌝ }
+    ensures report { λ r. ⌜ reportOfCsect (now (file .entry)) r ≡ csectReport (now (file .entry)) i ⌝ }
 {
     let o = header::open(file);
     let v = o.verdict;
@@ -98,12 +98,12 @@ fn type_number(k: CsectType) -> u64
     }
 }
 
-pub fn report_csect(a: CsectAnswer) -> CsectReport
-    ensures { λ r. ⌜ r ≡ reportOfCsect a ⌝ }
+pub fn report_csect(file: &[u8], a: CsectAnswer) -> CsectReport
+    ensures { λ r. ⌜ r ≡ reportOfCsect (now (file .entry)) a ⌝ }
 {
     match a {
         CsectAnswer::Refused(x) => CsectReport {
-            head: refusal::report_head(Verdict::Refused(x)),
+            head: offset::refusal_head(file, x),
             kind: 0,
             align: 0,
             smclas: 0,
@@ -112,7 +112,7 @@ pub fn report_csect(a: CsectAnswer) -> CsectReport
         CsectAnswer::Found(c) => {
             let kind = c.kind;
             CsectReport {
-                head: refusal::report_head(Verdict::Accepted),
+                head: refusal::accepted_head(),
                 kind: type_number(kind),
                 align: c.align,
                 smclas: c.smclas,

@@ -26,44 +26,12 @@ use Rattle.section.specs.Section.{sectionHeaderAt, SectionWithin}
 use Rattle.section.proofs.Judged.{Judged, section-judged}
 use Rattle.file_header.specs.declared.FileHeader.{FileHeader}
 use Rattle.header.specs.declared.Summary.{Summary}
-use Rattle.file_header.specs.Header.{headerAt, sectionStart, headerCheck, HeaderComplete}
+use Rattle.file_header.specs.Header.{headerAt, sectionStart, headerCheck}
+use Rattle.file_header.proofs.Checked.{few, header-complete}
 use Rattle.file_tables.specs.Tables.{blankSection, blankSections, judgedAt, verdictOf, recordOf, sectionsCheck, sectionsOf, symbolsCheck, symbolTable}
 use Rattle.header.specs.Inside.{Inside}
 use Rattle.header.specs.Open.{summaryWith, formatCheck, magicCheck, openCheck, refusedBy, acceptedWith, summaryAs, summaryBy, openOf}
 use Rattle.file_tables.proofs.Symbols.{symbols-inside, strings-inside}
-
--- ---- the file header
-
-module _ (f : Format) (file : List ℕ) (e : headerCheck f file ≡ verdict.Accepted) where
-  header-tests : (refuseIf (ltb (length file) (headerLayout f .length)) Short orElse refuseIf (ltb sectionLimit (headerAt f file .nscns)) (Limit Sections) orElse refuseIf (ltb (length file) (sectionStart f (headerAt f file .opthdr) (headerAt f file .nscns))) Short) ≡ verdict.Accepted
-  unfolding headerCheck
-  header-tests = e
-
-  pub header-in : headerLayout f .length ≤ length file
-  header-in =
-      ltb-false (length file) (headerLayout f .length)
-      (accepted-test (ltb (length file) (headerLayout f .length)) Short (accepted-first (refuseIf (ltb (length file) (headerLayout f .length)) Short) _ header-tests))
-
-  rest : (refuseIf (ltb sectionLimit (headerAt f file .nscns)) (Limit Sections) orElse refuseIf (ltb (length file) (sectionStart f (headerAt f file .opthdr) (headerAt f file .nscns))) Short) ≡ verdict.Accepted
-  rest = accepted-rest (refuseIf (ltb (length file) (headerLayout f .length)) Short) _ header-tests
-
-  few : headerAt f file .nscns ≤ sectionLimit
-  few =
-      ltb-false sectionLimit (headerAt f file .nscns)
-      (accepted-test (ltb sectionLimit (headerAt f file .nscns)) (Limit Sections) (accepted-first (refuseIf (ltb sectionLimit (headerAt f file .nscns)) (Limit Sections)) _ rest))
-
-  headers-in : sectionStart f (headerAt f file .opthdr) (headerAt f file .nscns) ≤ length file
-  headers-in =
-      ltb-false (length file) (sectionStart f (headerAt f file .opthdr) (headerAt f file .nscns))
-      (accepted-test (ltb (length file) (sectionStart f (headerAt f file .opthdr) (headerAt f file .nscns))) Short
-      (accepted-rest (refuseIf (ltb sectionLimit (headerAt f file .nscns)) (Limit Sections)) _ rest))
-
-format-is : (f : Format) (file : List ℕ) → headerAt f file .format ≡ f
-unfolding headerAt
-format-is f file = refl
-
-pub header-complete : (f : Format) (file : List ℕ) → headerCheck f file ≡ verdict.Accepted → HeaderComplete file (headerAt f file)
-header-complete f file e = record { few = few f file e; inside = rw (format-is f file) (headers-in f file e) }
 
 -- ---- the sections
 
@@ -73,7 +41,7 @@ unfolding sectionsOf blankSections
 length-sections file h zero = length-replicate 32 blankSection
 length-sections file h (suc n) = length-set (sectionsOf file h n) n (recordOf (judgedAt file h n)) ∙ length-sections file h n
 
-section-record : (file : List ℕ) (h : FileHeader) (n i : ℕ) → n ≤ sectionLimit → i < n → getD (sectionsOf file h n) i blankSection ≡ recordOf (judgedAt file h i)
+pub section-record : (file : List ℕ) (h : FileHeader) (n i : ℕ) → n ≤ sectionLimit → i < n → getD (sectionsOf file h n) i blankSection ≡ recordOf (judgedAt file h i)
 unfolding sectionsOf
 section-record file h zero i l k = absurd (omega arith)
 section-record file h (suc n) i l k = by-place (section-record file h n i (omega arith)) (ℕ-discrete i n)
@@ -134,16 +102,16 @@ module _ (file : List ℕ) (e : openOf file .verdict ≡ verdict.Accepted) where
   accepted-check : openCheck file ≡ verdict.Accepted
   accepted-check = rw (open-verdict file) at e
 
-  checks : (refuseIf (ltb fileLimit (length file)) (Limit File) orElse refuseIf (ltb (length file) 2) Short orElse magicCheck file (formatOf (fieldIn magicField 0 file))) ≡ verdict.Accepted
+  pub checks : (refuseIf (ltb fileLimit (length file)) (Limit File) orElse refuseIf (ltb (length file) 2) Short orElse magicCheck file (formatOf (fieldIn magicField 0 file))) ≡ verdict.Accepted
   unfolding openCheck
   checks = accepted-check
 
-  small-file : length file ≤ fileLimit
+  pub small-file : length file ≤ fileLimit
   small-file =
       ltb-false fileLimit (length file)
       (accepted-test (ltb fileLimit (length file)) (Limit File) (accepted-first (refuseIf (ltb fileLimit (length file)) (Limit File)) _ checks))
 
-  magic-accepted : magicCheck file (formatOf (fieldIn magicField 0 file)) ≡ verdict.Accepted
+  pub magic-accepted : magicCheck file (formatOf (fieldIn magicField 0 file)) ≡ verdict.Accepted
   magic-accepted = accepted-rest (refuseIf (ltb (length file) 2) Short) _ (accepted-rest (refuseIf (ltb fileLimit (length file)) (Limit File)) _ checks)
 
   by-format : (a : MagicAnswer) → magicCheck file a ≡ verdict.Accepted → Inside file (summaryBy file a)

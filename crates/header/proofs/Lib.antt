@@ -3,3 +3,4 @@
 pub mod Answer
 pub mod Accepted
 pub mod Figures
+pub mod Named

@@ -15,8 +15,8 @@ use Rattle.refusal.specs.declared.Refusal.the-variants.{Short, Magic, Limit}
 use Rattle.refusal.specs.declared.LimitItem.the-variants.{File}
 use Rattle.refusal.specs.declared.Verdict.{Verdict}
 use Rattle.refusal.specs.declared.Verdict.the-variants.{Accepted, Refused}
-use Rattle.refusal.specs.Refusal.{reportHead}
 use Rattle.refusal.specs.Order.{_orElse_, refuseIf, byVerdict, ifAccepted}
+use Rattle.offset.specs.Report.{reportHead}
 use Rattle.section.specs.declared.Section.{Section}
 use Rattle.file_header.specs.declared.FileHeader.{FileHeader}
 use Rattle.header.specs.declared.Summary.{Summary}
@@ -80,10 +80,10 @@ unfoldable pub openOf : List ℕ → Opened
 openOf file = byVerdict (openCheck file) (acceptedWith (summaryBy file (formatOf (fieldIn magicField 0 file)))) refusedBy
 
 -- the answer in document 01's numbers; a blank summary has a format, and a refused file none
-abbrev pub reportOfOpened : Opened → OpenReport
-reportOfOpened o =
+abbrev pub reportOfOpened : List ℕ → Opened → OpenReport
+reportOfOpened file o =
     record {
-      head = reportHead (o .verdict);
+      head = reportHead file (o .verdict);
       bits = ifAccepted (o .verdict) (bitsOf (o .summary .format)) 0;
       sections = o .summary .count;
       symbols = o .summary .symbols .count;
@@ -92,4 +92,4 @@ reportOfOpened o =
     }
 
 abbrev pub openReport : List ℕ → OpenReport
-openReport file = reportOfOpened (openOf file)
+openReport file = reportOfOpened file (openOf file)

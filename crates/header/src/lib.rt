@@ -115,7 +115,7 @@ fn open_as(file: &[u8], f: Format) -> Opened
 // Opens a file: whether it is accepted, and what it holds. The summary of a refused file is blank.
 pub fn open(file: &[u8]) -> Opened
     ensures cause { λ r. ⌜ r ≡ openOf (now (file .entry)) ⌝ }
-    ensures report { λ r. ⌜ reportOfOpened r ≡ openReport (now (file .entry)) ⌝ }
+    ensures report { λ r. ⌜ reportOfOpened (now (file .entry)) r ≡ openReport (now (file .entry)) ⌝ }
 {
     let len = file.len();
     if format::FILE_LIMIT < len {
@@ -141,15 +141,15 @@ fn bits_by(v: Verdict, f: Format) -> u64
     }
 }
 
-pub fn report_open(o: Opened) -> OpenReport
-    ensures { λ r. ⌜ r ≡ reportOfOpened o ⌝ }
+pub fn report_open(file: &[u8], o: Opened) -> OpenReport
+    ensures { λ r. ⌜ r ≡ reportOfOpened (now (file .entry)) o ⌝ }
 {
     let y = o.summary;
     let symbols = y.symbols;
     let f = y.format;
     let v = o.verdict;
     OpenReport {
-        head: refusal::report_head(v),
+        head: offset::report_head(file, v),
         bits: bits_by(v, f),
         sections: y.count,
         symbols: symbols.count,

@@ -71,13 +71,13 @@ module _ (file : List ℕ) {a : LoadableAnswer} (e : a ≡ loadableAt file) wher
   abbrev pub Reports : Call → Images → CallAnswer → Images → Type 0
   Reports c x r y =
       (r ≡ answerOf (relocatableAt file) (length (x .text)) (length (x .dat)) c)
-      × ((reportOfCall r ≡ reportOfCall (answerOf (relocatableAt file) (length (x .text)) (length (x .dat)) c)) × (y ≡ effect (relocatableAt file) c x))
+      × ((reportOfCall file r ≡ reportOfCall file (answerOf (relocatableAt file) (length (x .text)) (length (x .dat)) c)) × (y ≡ effect (relocatableAt file) c x))
 
   -- what a call answers and leaves of the file's module is what the public function should
   reports : (m : Relocatable) (c : Call) (x : Images) (r : CallAnswer) (y : Images) → m ≡ relocatableAt file → Answers m c x r y → Reports c x r y
   reports m c x r y h k =
       let b = subst (λ (n : Relocatable). Answers n c x r y) h k in
-      (b .0, (ap reportOfCall (b .0), b .1))
+      (b .0, (ap (reportOfCall file) (b .0), b .1))
 
   -- every call of a refused file gives its refusal
   none-refused : (x : Refusal) (tl dl : ℕ) (c : Call) → callCheck (noModule x) tl dl c ≡ Refused x

@@ -96,7 +96,7 @@ pub fn build_images(
     data: &mut [u8],
 ) -> CallAnswer
     ensures cause { λ r. ⌜ r ≡ answerOf (relocatableAt (now (file .entry))) (length (now (text .entry))) (length (now («data» .entry))) (build (planOf at (now (imports .entry)))) ⌝ }
-    ensures report { λ r. ⌜ reportOfCall r ≡ reportOfCall (answerOf (relocatableAt (now (file .entry))) (length (now (text .entry))) (length (now («data» .entry))) (build (planOf at (now (imports .entry))))) ⌝ }
+    ensures report { λ r. ⌜ reportOfCall (now (file .entry)) r ≡ reportOfCall (now (file .entry)) (answerOf (relocatableAt (now (file .entry))) (length (now (text .entry))) (length (now («data» .entry))) (build (planOf at (now (imports .entry))))) ⌝ }
     ensures images { λ _. ⌜ images (now (text .exit)) (now («data» .exit)) ≡ effect (relocatableAt (now (file .entry))) (build (planOf at (now (imports .entry)))) (images (now (text .entry)) (now («data» .entry))) ⌝ }
 {
     let a = loadable::module_of(file);
@@ -117,7 +117,7 @@ pub fn move_images(
     data: &mut [u8],
 ) -> CallAnswer
     ensures cause { λ r. ⌜ r ≡ answerOf (relocatableAt (now (file .entry))) (length (now (text .entry))) (length (now («data» .entry))) (move (planOf from (now («from_imports» .entry))) (planOf to (now («to_imports» .entry)))) ⌝ }
-    ensures report { λ r. ⌜ reportOfCall r ≡ reportOfCall (answerOf (relocatableAt (now (file .entry))) (length (now (text .entry))) (length (now («data» .entry))) (move (planOf from (now («from_imports» .entry))) (planOf to (now («to_imports» .entry))))) ⌝ }
+    ensures report { λ r. ⌜ reportOfCall (now (file .entry)) r ≡ reportOfCall (now (file .entry)) (answerOf (relocatableAt (now (file .entry))) (length (now (text .entry))) (length (now («data» .entry))) (move (planOf from (now («from_imports» .entry))) (planOf to (now («to_imports» .entry))))) ⌝ }
     ensures images { λ _. ⌜ images (now (text .exit)) (now («data» .exit)) ≡ effect (relocatableAt (now (file .entry))) (move (planOf from (now («from_imports» .entry))) (planOf to (now («to_imports» .entry)))) (images (now (text .entry)) (now («data» .entry))) ⌝ }
 {
     let a = loadable::module_of(file);
@@ -136,15 +136,15 @@ pub fn move_images(
     }
 }
 
-pub fn report_call(a: CallAnswer) -> CallReport
-    ensures { λ r. ⌜ r ≡ reportOfCall a ⌝ }
+pub fn report_call(file: &[u8], a: CallAnswer) -> CallReport
+    ensures { λ r. ⌜ r ≡ reportOfCall (now (file .entry)) a ⌝ }
 {
     match a {
         CallAnswer::Done(r) => {
             let entry = r.entry;
             let toc = r.toc;
             CallReport {
-                head: refusal::report_head(Verdict::Accepted),
+                head: refusal::accepted_head(),
                 has_entry: displacement::is_present(entry),
                 entry: displacement::address_of(entry),
                 has_toc: displacement::is_present(toc),
@@ -152,7 +152,7 @@ pub fn report_call(a: CallAnswer) -> CallReport
             }
         }
         CallAnswer::Refused(x) => CallReport {
-            head: refusal::report_head(Verdict::Refused(x)),
+            head: offset::refusal_head(file, x),
             has_entry: 0,
             entry: 0,
             has_toc: 0,

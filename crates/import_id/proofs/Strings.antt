@@ -18,8 +18,8 @@ use Rattle.format.specs.Range.{range, bytesOf}
 use Rattle.refusal.specs.declared.RangeAnswer.the-variants as range
 use Rattle.refusal.specs.declared.Verdict.{Verdict}
 use Rattle.refusal.specs.declared.Verdict.the-variants as verdict
-use Rattle.refusal.specs.Part.{Within, reportOfRange, InFile}
-use Rattle.refusal.proofs.Report.{range-inside}
+use Rattle.refusal.specs.Part.{Within}
+use Rattle.offset.proofs.Report.{range-inside}
 use Rattle.refusal.proofs.Order.{accepted-test}
 use Rattle.loader_header.specs.declared.LoaderTables.{LoaderTables}
 use Rattle.loadable.specs.declared.Loadable.{Loadable}
@@ -33,6 +33,7 @@ use Rattle.import_id.specs.declared.ImportString.the-variants.{Path, Bas
 use Rattle.import_id.specs.Import.{idCheck, stringStart, stringOf, placeOf, importIn, importAt}
 use Rattle.refusal.specs.Order.{byVerdict}
 use Rattle.format.proofs.Ranges.{length-part}
+use Rattle.offset.specs.Report.{reportOfRange, InFile}
 
 -- what is left behind the first j strings: a zero less for each
 pub record Left (s : List ℕ) (j : ℕ) : Type 0 where
@@ -142,5 +143,5 @@ pub import-within : (file : List ℕ) (n : ℕ) (w : ImportString) → Within (l
 unfolding importAt
 import-within file n w = by-answer file n w (loadableAt file) refl
 
-pub import-inside : (file : List ℕ) (n : ℕ) (w : ImportString) → InFile file (reportOfRange (importAt file n w))
+pub import-inside : (file : List ℕ) (n : ℕ) (w : ImportString) → InFile file (reportOfRange file (importAt file n w))
 import-inside file n w = range-inside file (importAt file n w) (import-within file n w)

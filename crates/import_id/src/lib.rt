@@ -5,7 +5,8 @@ ghost use lib.ListN.{length};
 ghost use Rattle.word.specs.Zero.{zerosIn};
 ghost use Rattle.format.specs.Limit.{fileLimit};
 ghost use Rattle.format.specs.Range.{bytesOf};
-ghost use Rattle.refusal.specs.Part.{rangeBytes, reportOfRange};
+ghost use Rattle.offset.specs.Report.{reportOfRange};
+ghost use Rattle.refusal.specs.Part.{rangeBytes};
 ghost use Rattle.import_id.specs.Import.{stringStart, stringOf, placeOf, importAt};
 use format::FileOffset;
 use format::FileRange;
@@ -65,7 +66,7 @@ fn place_of(w: ImportString) -> u64
 // Where a string of import id `n` lies.
 pub fn import_range(file: &[u8], n: u64, w: ImportString) -> RangeAnswer
     ensures cause { λ r. ⌜ r ≡ importAt (now (file .entry)) n w ⌝ }
-    ensures report { λ r. ⌜ reportOfRange r ≡ reportOfRange (importAt (now (file .entry)) n w) ⌝ }
+    ensures report { λ r. ⌜ reportOfRange (now (file .entry)) r ≡ reportOfRange (now (file .entry)) (importAt (now (file .entry)) n w) ⌝ }
 {
     let a = loadable::module_of(file);
     match a {

@@ -99,4 +99,4 @@ import-even file l j = refl
 
 pub imports-need : (file : List ℕ) → Needs imports file (6 * moduleReport file .ids)
 unfolding tableCheck
-imports-need file = needs-by imports (λ a. reportOfModule a .ids) file (λ l. refl) (λ x. refl) (import-even file) (loadableAt file)
+imports-need file = needs-by imports (λ a. reportOfModule file a .ids) file (λ l. refl) (λ x. refl) (import-even file) (loadableAt file)

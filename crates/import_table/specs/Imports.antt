@@ -6,19 +6,19 @@ use Rattle.word.specs.Zero.{zerosIn}
 use Rattle.format.specs.declared.FileRange.{FileRange}
 use Rattle.format.specs.Limit.{fileLimit}
 use Rattle.format.specs.Range.{bytesOf}
+use Rattle.refusal.specs.Part.{rangeFound}
 use Rattle.loadable.specs.declared.Loadable.{Loadable}
 use Rattle.import_id.specs.declared.ImportString.the-variants.{Path, Base, Member}
 use Rattle.import_id.specs.Import.{stringOf, importAt}
-use Rattle.refusal.specs.Part.{reportOfRange}
 use Rattle.module_table.specs.Table.{Table}
 
 -- import id n: offset and length of its path, base name and archive member
 unfoldable pub importRow : List ℕ → Loadable → ℕ → List ℕ
 importRow file l n =
-    let path = reportOfRange (importAt file n Path) in
-    let base = reportOfRange (importAt file n Base) in
-    let member = reportOfRange (importAt file n Member) in
-    path .offset ∷ path .length ∷ base .offset ∷ base .length ∷ member .offset ∷ member .length ∷ []
+    let path = rangeFound (importAt file n Path) in
+    let base = rangeFound (importAt file n Base) in
+    let member = rangeFound (importAt file n Member) in
+    path .start .0 ∷ path .length ∷ base .start .0 ∷ base .length ∷ member .start .0 ∷ member .length ∷ []
 
 abbrev pub imports : Table
 imports = record { width = 6; count = λ l. l .tables .nimpid; row = importRow }

@@ -9,7 +9,7 @@ ghost use Rattle.rows.specs.Rows.{rowsOf};
 ghost use Rattle.module_table.specs.Table.{checkBy, tableCheck, rowsBy, tableAfter};
 ghost use Rattle.import_table.specs.Imports.{stringRow, StringsThere, imports};
 ghost use Rattle.refusal.specs.Order.{ifAccepted};
-ghost use Rattle.refusal.specs.Refusal.{reportHead};
+ghost use Rattle.offset.specs.Report.{reportHead};
 use format::FileRange;
 use loadable::Loadable;
 use loadable::LoadableAnswer;
@@ -63,7 +63,7 @@ fn list_imports(file: &[u8], l: Loadable, out: &mut [u64]) -> Verdict
 // A row of 6 numbers for each import id.
 pub fn import_table(file: &[u8], out: &mut [u64]) -> Verdict
     ensures cause { λ r. ⌜ r ≡ tableCheck imports (now (file .entry)) (length (now (out .entry))) ⌝ }
-    ensures report { λ r. ⌜ reportHead r ≡ reportHead (tableCheck imports (now (file .entry)) (length (now (out .entry)))) ⌝ }
+    ensures report { λ r. ⌜ reportHead (now (file .entry)) r ≡ reportHead (now (file .entry)) (tableCheck imports (now (file .entry)) (length (now (out .entry)))) ⌝ }
     ensures rows { λ _. ⌜ now (out .exit) ≡ tableAfter imports (now (file .entry)) (now (out .entry)) ⌝ }
 {
     let a = loadable::module_of(file);

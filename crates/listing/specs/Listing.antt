@@ -6,8 +6,8 @@ use lib.ListN.{length, take}
 use Rattle.format.specs.declared.Format.{Format}
 use Rattle.format.specs.declared.Format.the-variants.{Xcoff32, Xcoff64}
 use Rattle.section_kind.specs.Kind.{kindWord}
-use Rattle.refusal.specs.declared.Refusal.{Refusal}
-use Rattle.refusal.specs.Refusal.{numberOf, itemOf}
+use Rattle.refusal.specs.declared.Head.{Head}
+use Rattle.offset.specs.Report.{refusalHead}
 use Rattle.section.specs.declared.Section.{Section}
 use Rattle.header.specs.declared.Summary.{Summary}
 use Rattle.header.specs.Open.{openOf}
@@ -51,16 +51,16 @@ unfoldable pub sectionLines : Format → ℕ → List Section → List ℕ
 sectionLines f n [] = []
 sectionLines f n (s ∷ t) = sectionLine f n s ++ sectionLines f (suc n) t
 
--- number and item
-unfoldable pub refusalLine : Refusal → List ℕ
-refusalLine x = refusedWord ++ blank ++ decimal (numberOf x) ++ blank ++ decimal (itemOf x) ++ newline
+-- number, item and offset
+unfoldable pub refusalLine : Head → List ℕ
+refusalLine h = refusedWord ++ blank ++ decimal (h .number) ++ blank ++ decimal (h .item) ++ blank ++ decimal (h .offset) ++ newline
 
 unfoldable pub summaryText : Summary → List ℕ
 summaryText y = fileLine (y .format) (y .count) (y .symbols .count) ++ sectionLines (y .format) 1 (take (y .count) (y .sections))
 
 -- the text for a file
 unfoldable pub listing : List ℕ → List ℕ
-listing file = byVerdict (openOf file .verdict) (summaryText (openOf file .summary)) refusalLine
+listing file = byVerdict (openOf file .verdict) (summaryText (openOf file .summary)) (λ x. refusalLine (refusalHead file x))
 
 -- n counts bytes at the start of bs: the two forms in which lending them asks it
 abbrev pub Counts : ℕ → List ℕ → Type 0

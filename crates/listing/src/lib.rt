@@ -8,7 +8,7 @@ ghost use Rattle.listing.specs.Listing.{addressDigits, formatWord, fileL
 use format::Format;
 use format::VirtualAddress;
 use header::Summary;
-use refusal::Refusal;
+use refusal::Head;
 use refusal::Verdict;
 use section::Section;
 
@@ -91,16 +91,18 @@ fn put_file_line(out: &mut [u8; 2048], f: Format, sections: u64, symbols: u64) -
     text::put_byte(out, at, b'\n')
 }
 
-fn put_refusal_line(out: &mut [u8; 2048], x: Refusal) -> usize
-    ensures next { λ r. ⌜ r ≡ length (refusalLine x) ⌝ }
-    ensures text { λ _. ⌜ now (out .exit) ≡ sets (now (out .entry)) 0 (refusalLine x) ⌝ }
+fn put_refusal_line(out: &mut [u8; 2048], h: Head) -> usize
+    ensures next { λ r. ⌜ r ≡ length (refusalLine h) ⌝ }
+    ensures text { λ _. ⌜ now (out .exit) ≡ sets (now (out .entry)) 0 (refusalLine h) ⌝ }
     ensures short { λ r. ⌜ r ≤ 2048 ⌝ }
 {
     let at = text::put_bytes(out, 0, b"refused");
     let at = text::put_byte(out, at, b' ');
-    let at = text::put_decimal(out, at, refusal::number(x));
+    let at = text::put_decimal(out, at, h.number);
     let at = text::put_byte(out, at, b' ');
-    let at = text::put_decimal(out, at, refusal::item(x));
+    let at = text::put_decimal(out, at, h.item);
+    let at = text::put_byte(out, at, b' ');
+    let at = text::put_decimal(out, at, h.offset);
     text::put_byte(out, at, b'\n')
 }
 
@@ -136,7 +138,7 @@ pub fn list_headers(file: &[u8], out: &mut [u8; 2048]) -> usize
     let v = o.verdict;
     let y = o.summary;
     match v {
-        Verdict::Refused(x) => count_in(put_refusal_line(out, x), out),
+        Verdict::Refused(x) => count_in(put_refusal_line(out, offset::refusal_head(file, x)), out),
         Verdict::Accepted => count_in(put_summary(out, y), out),
     }
 }

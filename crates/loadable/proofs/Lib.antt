@@ -2,3 +2,4 @@
 
 pub mod Order
 pub mod Accepted
+pub mod Named

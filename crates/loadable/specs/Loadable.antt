@@ -2,8 +2,7 @@
 use Prim.Native.Nat.{ℕ}
 use mathlib.Core.List.{List}
 use Rattle.format.specs.Layout.{bitsOf}
-use Rattle.refusal.specs.declared.Verdict.the-variants as verdict
-use Rattle.refusal.specs.Refusal.{reportHead}
+use Rattle.refusal.specs.Refusal.{acceptedHead}
 use Rattle.module.specs.declared.Module.{Module}
 use Rattle.module.specs.declared.ModuleAnswer.{ModuleAnswer}
 use Rattle.module.specs.declared.ModuleAnswer.the-variants as found
@@ -20,6 +19,7 @@ use Rattle.loadable.specs.declared.AnchorReport.{AnchorReport}
 use Rattle.loadable.specs.declared.ModuleReport.{ModuleReport}
 use Rattle.loadable.specs.Entries.{entriesCheck}
 use Rattle.refusal.specs.Order.{byVerdict}
+use Rattle.offset.specs.Report.{refusalHead}
 
 -- the relocation entries of a module whose loader section is accepted
 unfoldable pub loadableWith : List ℕ → Module → LoaderAnswer → LoadableAnswer
@@ -42,12 +42,12 @@ partReport number address size = record { number = number; address = address; si
 abbrev pub anchorReport : ℕ → ℕ → AnchorReport
 anchorReport section address = record { section = section; address = address }
 
--- the module's values: all 0 on a refusal
-abbrev pub reportOfModule : LoadableAnswer → ModuleReport
-reportOfModule (Found l) =
+-- the module's values
+abbrev pub reportOfFound : Loadable → ModuleReport
+reportOfFound l =
     let p = l .layout .parts in
     record {
-      head = reportHead verdict.Accepted;
+      head = acceptedHead;
       bits = bitsOf (l .layout .format);
       text = partReport (p .text .number .0) (p .text .address .0) (p .text .size);
       «data» = partReport (p .«data» .number .0) (p .«data» .address .0) (p .«data» .size);
@@ -60,9 +60,13 @@ reportOfModule (Found l) =
       entry = anchorReport (l .layout .entry .section .0) (l .layout .entry .address .0);
       toc = anchorReport (l .layout .toc .section .0) (l .layout .toc .address .0);
     }
-reportOfModule (Refused x) =
+
+-- all 0 on a refusal, but for its head
+abbrev pub reportOfModule : List ℕ → LoadableAnswer → ModuleReport
+reportOfModule file (Found l) = reportOfFound l
+reportOfModule file (Refused x) =
     record {
-      head = reportHead (verdict.Refused x);
+      head = refusalHead file x;
       bits = 0;
       text = partReport 0 0 0;
       «data» = partReport 0 0 0;
@@ -77,4 +81,4 @@ reportOfModule (Refused x) =
     }
 
 abbrev pub moduleReport : List ℕ → ModuleReport
-moduleReport file = reportOfModule (loadableAt file)
+moduleReport file = reportOfModule file (loadableAt file)

@@ -3,7 +3,7 @@ ghost use mathlib.Core.Path.{_≡_};
 ghost use Rattle.relocation.specs.Relocation.{ownAt};
 ghost use Rattle.module.specs.Inside.{ModuleInside};
 ghost use Rattle.loadable.specs.Entries.{entriesCheck, FirstRefused, verdictAt, EntriesReady};
-ghost use Rattle.loadable.specs.Loadable.{loadableIn, loadableAt, partReport, anchorReport, reportOfModule, moduleReport};
+ghost use Rattle.loadable.specs.Loadable.{loadableIn, loadableAt, partReport, anchorReport, reportOfFound, reportOfModule, moduleReport};
 use format::Format;
 use loader::LoaderAnswer;
 use loader_header::LoaderTables;
@@ -126,7 +126,7 @@ fn load(file: &[u8], m: Module) -> LoadableAnswer
 // The module in a file: every number that a host needs of it.
 pub fn module_of(file: &[u8]) -> LoadableAnswer
     ensures cause { λ r. ⌜ r ≡ loadableAt (now (file .entry)) ⌝ }
-    ensures report { λ r. ⌜ reportOfModule r ≡ moduleReport (now (file .entry)) ⌝ }
+    ensures report { λ r. ⌜ reportOfModule (now (file .entry)) r ≡ moduleReport (now (file .entry)) ⌝ }
 {
     let a = module::find_module(file);
     match a {
@@ -158,8 +158,8 @@ fn report_anchor(a: Anchor) -> AnchorReport
     }
 }
 
-fn report_refused(x: Refusal) -> ModuleReport
-    ensures { λ r. ⌜ r ≡ reportOfModule (LoadableAnswer.Refused x) ⌝ }
+fn report_refused(file: &[u8], x: Refusal) -> ModuleReport
+    ensures { λ r. ⌜ r ≡ reportOfModule (now (file .entry)) (LoadableAnswer.Refused x) ⌝ }
 {
     let part = PartReport {
         number: 0,
@@ -171,7 +171,7 @@ fn report_refused(x: Refusal) -> ModuleReport
         address: 0,
     };
     ModuleReport {
-        head: refusal::report_head(Verdict::Refused(x)),
+        head: offset::refusal_head(file, x),
         bits: 0,
         text: part,
         data: part,
@@ -187,7 +187,7 @@ fn report_refused(x: Refusal) -> ModuleReport
 }
 
 fn report_found(l: Loadable) -> ModuleReport
-    ensures { λ r. ⌜ r ≡ reportOfModule (LoadableAnswer.Found l) ⌝ }
+    ensures { λ r. ⌜ r ≡ reportOfFound l ⌝ }
 {
     let m = l.layout;
     let p = m.parts;
@@ -201,7 +201,7 @@ fn report_found(l: Loadable) -> ModuleReport
     let entry = m.entry;
     let toc = m.toc;
     ModuleReport {
-        head: refusal::report_head(Verdict::Accepted),
+        head: refusal::accepted_head(),
         bits: format::bits_of(f),
         text: report_part(text),
         data: report_part(data),
@@ -216,11 +216,11 @@ fn report_found(l: Loadable) -> ModuleReport
     }
 }
 
-pub fn report_module(a: LoadableAnswer) -> ModuleReport
-    ensures { λ r. ⌜ r ≡ reportOfModule a ⌝ }
+pub fn report_module(file: &[u8], a: LoadableAnswer) -> ModuleReport
+    ensures { λ r. ⌜ r ≡ reportOfModule (now (file .entry)) a ⌝ }
 {
     match a {
-        LoadableAnswer::Refused(x) => report_refused(x),
+        LoadableAnswer::Refused(x) => report_refused(file, x),
         LoadableAnswer::Found(l) => report_found(l),
     }
 }

@@ -16,4 +16,4 @@ loader-symbol-even file l j = refl
 module _ (file : List ℕ) where
   pub loader-symbols-need : Needs loaderSymbols file (9 * moduleReport file .symbols)
   unfolding tableCheck
-  loader-symbols-need = needs-by loaderSymbols (λ a. reportOfModule a .symbols) file (λ l. refl) (λ x. refl) (loader-symbol-even file) (loadableAt file)
+  loader-symbols-need = needs-by loaderSymbols (λ a. reportOfModule file a .symbols) file (λ l. refl) (λ x. refl) (loader-symbol-even file) (loadableAt file)

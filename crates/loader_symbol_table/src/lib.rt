@@ -7,7 +7,7 @@ ghost use Rattle.rows.specs.Rows.{rowsOf};
 ghost use Rattle.module_table.specs.Table.{checkBy, tableCheck, rowsBy, tableAfter};
 ghost use Rattle.loader_symbol_table.specs.Rows.{loaderSymbolRow, loaderSymbols};
 ghost use Rattle.refusal.specs.Order.{ifAccepted};
-ghost use Rattle.refusal.specs.Refusal.{reportHead};
+ghost use Rattle.offset.specs.Report.{reportHead};
 use loadable::Loadable;
 use loadable::LoadableAnswer;
 use refusal::Verdict;
@@ -26,7 +26,8 @@ fn loader_symbol_row(file: &[u8], l: Loadable, k: u64) -> [u64; 9]
     let base = (symbols.0 + k * format::LOADER_SYMBOL_LENGTH) as usize;
     let e = loader_symbol::read_entry(file, f, base);
     let field = e.name;
-    let name = refusal::report_range(loader_symbol::name_range(file, strings, base, i, field));
+    let name = refusal::range_found(loader_symbol::name_range(file, strings, base, i, field));
+    let start = name.start;
     [
         i,
         e.value,
@@ -35,7 +36,7 @@ fn loader_symbol_row(file: &[u8], l: Loadable, k: u64) -> [u64; 9]
         e.smclas,
         e.ifile,
         e.parm,
-        name.offset,
+        start.0,
         name.length,
     ]
 }
@@ -72,7 +73,7 @@ fn list_loader_symbols(file: &[u8], l: Loadable, out: &mut [u64]) -> Verdict
 // A row of 9 numbers for each loader symbol.
 pub fn loader_symbol_table(file: &[u8], out: &mut [u64]) -> Verdict
     ensures cause { λ r. ⌜ r ≡ tableCheck loaderSymbols (now (file .entry)) (length (now (out .entry))) ⌝ }
-    ensures report { λ r. ⌜ reportHead r ≡ reportHead (tableCheck loaderSymbols (now (file .entry)) (length (now (out .entry)))) ⌝ }
+    ensures report { λ r. ⌜ reportHead (now (file .entry)) r ≡ reportHead (now (file .entry)) (tableCheck loaderSymbols (now (file .entry)) (length (now (out .entry)))) ⌝ }
     ensures rows { λ _. ⌜ now (out .exit) ≡ tableAfter loaderSymbols (now (file .entry)) (now (out .entry)) ⌝ }
 {
     let a = loadable::module_of(file);

@@ -1,3 +1,4 @@
 -- The laws of look-ups.
 
 pub mod Symbols
+pub mod Named

@@ -19,8 +19,8 @@ use Rattle.format.proofs.Ranges.{text-inside}
 use Rattle.refusal.specs.declared.RangeAnswer.the-variants as range
 use Rattle.refusal.specs.declared.Verdict.{Verdict}
 use Rattle.refusal.specs.declared.Verdict.the-variants as verdict
-use Rattle.refusal.specs.Part.{Within, reportOfRange, InFile}
-use Rattle.refusal.proofs.Report.{range-inside}
+use Rattle.refusal.specs.Part.{Within}
+use Rattle.offset.proofs.Report.{range-inside}
 use Rattle.refusal.proofs.Order.{accepted-test}
 use Rattle.loader_header.specs.declared.LoaderTables.{LoaderTables}
 use Rattle.loader_symbol.specs.Symbol.{entryStart, stringIn, nameIn, TablesInside}
@@ -32,6 +32,7 @@ use Rattle.loadable.specs.Valid.{Valid}
 use Rattle.loadable.proofs.Accepted.{loadable-valid}
 use Rattle.lookup.specs.Symbol.{indexCheck, entryOf, nameOf, symbolNameIn, loaderNameAt}
 use Rattle.refusal.specs.Order.{byVerdict}
+use Rattle.offset.specs.Report.{reportOfRange, InFile}
 
 -- an index that is accepted is in the table
 pub index-known : (t : LoaderTables) (i : ℕ) → indexCheck t i ≡ verdict.Accepted → (3 ≤ i) × (i < 3 + t .nsyms)
@@ -85,5 +86,5 @@ pub loader-name-within : (file : List ℕ) (i : ℕ) → Within (length file) (l
 unfolding loaderNameAt
 loader-name-within file i = by-answer file i (loadableAt file) refl
 
-pub loader-name-inside : (file : List ℕ) (i : ℕ) → InFile file (reportOfRange (loaderNameAt file i))
+pub loader-name-inside : (file : List ℕ) (i : ℕ) → InFile file (reportOfRange file (loaderNameAt file i))
 loader-name-inside file i = range-inside file (loaderNameAt file i) (loader-name-within file i)

@@ -9,8 +9,8 @@ use Rattle.refusal.specs.declared.RangeAnswer.{RangeAnswer}
 use Rattle.refusal.specs.declared.RangeAnswer.the-variants as range
 use Rattle.refusal.specs.declared.Verdict.{Verdict}
 use Rattle.refusal.specs.Order.{refuseIf, byVerdict}
-use Rattle.refusal.specs.declared.Verdict.the-variants as verdict
-use Rattle.refusal.specs.Refusal.{reportHead}
+use Rattle.refusal.specs.Refusal.{acceptedHead}
+use Rattle.offset.specs.Report.{refusalHead}
 use Rattle.loader_symbol.specs.declared.LoaderEntry.{LoaderEntry}
 use Rattle.loader_header.specs.declared.LoaderTables.{LoaderTables}
 use Rattle.loader_symbol.specs.Symbol.{entryStart, entryAt, nameIn}
@@ -49,11 +49,11 @@ unfoldable pub loaderNameAt : List ℕ → ℕ → RangeAnswer
 loaderNameAt file i = symbolNameIn file (loadableAt file) i
 
 -- the answer in document 01's numbers
-abbrev pub reportOfLoaderSymbol : LoaderSymbolAnswer → LoaderSymbolReport
-reportOfLoaderSymbol (Found e) =
-    record { head = reportHead verdict.Accepted; value = e .value; scnum = e .scnum; smtype = e .smtype; smclas = e .smclas; ifile = e .ifile; parm = e .parm }
-reportOfLoaderSymbol (Refused x) =
-    record { head = reportHead (verdict.Refused x); value = 0; scnum = 0; smtype = 0; smclas = 0; ifile = 0; parm = 0 }
+abbrev pub reportOfLoaderSymbol : List ℕ → LoaderSymbolAnswer → LoaderSymbolReport
+reportOfLoaderSymbol file (Found e) =
+    record { head = acceptedHead; value = e .value; scnum = e .scnum; smtype = e .smtype; smclas = e .smclas; ifile = e .ifile; parm = e .parm }
+reportOfLoaderSymbol file (Refused x) =
+    record { head = refusalHead file x; value = 0; scnum = 0; smtype = 0; smclas = 0; ifile = 0; parm = 0 }
 
 abbrev pub loaderSymbolReport : List ℕ → ℕ → LoaderSymbolReport
-loaderSymbolReport file i = reportOfLoaderSymbol (loaderSymbolAt file i)
+loaderSymbolReport file i = reportOfLoaderSymbol file (loaderSymbolAt file i)

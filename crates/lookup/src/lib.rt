@@ -3,7 +3,8 @@ ghost use mathlib.Core.Path.{_≡_};
 ghost use Prim.Native.Nat.{_+_, _-_, _*_, _≤_, _<_};
 ghost use Rattle.format.specs.Layout.{loaderSymbolLength};
 ghost use Rattle.format.specs.Limit.{fileLimit};
-ghost use Rattle.refusal.specs.Part.{rangeBytes, reportOfRange};
+ghost use Rattle.offset.specs.Report.{reportOfRange};
+ghost use Rattle.refusal.specs.Part.{rangeBytes};
 ghost use Rattle.loader_symbol.specs.Symbol.{entryStart};
 ghost use Rattle.lookup.specs.Symbol.{indexCheck, loaderSymbolAt, loaderNameAt, reportOfLoaderSymbol, loaderSymbolReport};
 use loadable::LoadableAnswer;
@@ -57,7 +58,7 @@ fn entry_base(t: LoaderTables, i: u64) -> usize
 // The loader symbol with index `i`, from 3.
 pub fn loader_symbol(file: &[u8], i: u64) -> LoaderSymbolAnswer
     ensures cause { λ r. ⌜ r ≡ loaderSymbolAt (now (file .entry)) i ⌝ }
-    ensures report { λ r. ⌜ reportOfLoaderSymbol r ≡ loaderSymbolReport (now (file .entry)) i ⌝ }
+    ensures report { λ r. ⌜ reportOfLoaderSymbol (now (file .entry)) r ≡ loaderSymbolReport (now (file .entry)) i ⌝ }
 {
     let a = loadable::module_of(file);
     match a {
@@ -81,7 +82,7 @@ pub fn loader_symbol(file: &[u8], i: u64) -> LoaderSymbolAnswer
 // Where the name of the loader symbol with index `i` lies.
 pub fn loader_symbol_name_range(file: &[u8], i: u64) -> RangeAnswer
     ensures cause { λ r. ⌜ r ≡ loaderNameAt (now (file .entry)) i ⌝ }
-    ensures report { λ r. ⌜ reportOfRange r ≡ reportOfRange (loaderNameAt (now (file .entry)) i) ⌝ }
+    ensures report { λ r. ⌜ reportOfRange (now (file .entry)) r ≡ reportOfRange (now (file .entry)) (loaderNameAt (now (file .entry)) i) ⌝ }
 {
     let a = loadable::module_of(file);
     match a {
@@ -113,12 +114,12 @@ pub fn loader_symbol_name<'a>(file: &'a [u8], i: u64) -> &'a [u8]
     refusal::part_of(file, a)
 }
 
-pub fn report_loader_symbol(a: LoaderSymbolAnswer) -> LoaderSymbolReport
-    ensures { λ r. ⌜ r ≡ reportOfLoaderSymbol a ⌝ }
+pub fn report_loader_symbol(file: &[u8], a: LoaderSymbolAnswer) -> LoaderSymbolReport
+    ensures { λ r. ⌜ r ≡ reportOfLoaderSymbol (now (file .entry)) a ⌝ }
 {
     match a {
         LoaderSymbolAnswer::Refused(x) => LoaderSymbolReport {
-            head: refusal::report_head(Verdict::Refused(x)),
+            head: offset::refusal_head(file, x),
             value: 0,
             scnum: 0,
             smtype: 0,
@@ -127,7 +128,7 @@ pub fn report_loader_symbol(a: LoaderSymbolAnswer) -> LoaderSymbolReport
             parm: 0,
         },
         LoaderSymbolAnswer::Found(e) => LoaderSymbolReport {
-            head: refusal::report_head(Verdict::Accepted),
+            head: refusal::accepted_head(),
             value: e.value,
             scnum: e.scnum,
             smtype: e.smtype,

@@ -2,3 +2,4 @@
 
 pub mod Extent
 pub mod Accepted
+pub mod Named

@@ -12,7 +12,6 @@ use Rattle.refusal.specs.declared.ModuleItem.the-variants.{ShortAuxHeader, Sect
 use Rattle.refusal.specs.declared.AddressItem.the-variants.{BssBelowData}
 use Rattle.refusal.specs.declared.LimitItem.the-variants.{DataImage}
 use Rattle.refusal.specs.declared.Verdict.{Verdict}
-use Rattle.refusal.specs.declared.Verdict.the-variants as verdict
 use Rattle.refusal.specs.Order.{_orElse_, refuseIf, byVerdict}
 use Rattle.header.specs.declared.Summary.{Summary}
 use Rattle.header.specs.Open.{openOf}

@@ -1,3 +1,4 @@
 -- The laws of a listed table.
 
 pub mod Tables
+pub mod Named

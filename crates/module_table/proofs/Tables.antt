@@ -9,7 +9,7 @@ use lib.ListN.{length}
 use Rattle.refusal.specs.declared.Refusal.{Refusal}
 use Rattle.refusal.specs.declared.Verdict.{Verdict}
 use Rattle.refusal.specs.declared.Verdict.the-variants as verdict
-use Rattle.refusal.specs.Refusal.{isRefused, reportHead}
+use Rattle.refusal.specs.Refusal.{isRefused}
 use Rattle.refusal.proofs.Order.{accepts}
 use Rattle.loadable.specs.declared.Loadable.{Loadable}
 use Rattle.loadable.specs.declared.LoadableAnswer.{LoadableAnswer}
@@ -19,13 +19,14 @@ use Rattle.rows.specs.Rows.{rowsOf, roomCheck}
 use Rattle.rows.proofs.Laws.{room-exact, length-rows}
 use Rattle.module_table.specs.Table.{Table, checkBy, tableCheck, rowsBy, tableAfter}
 use Rattle.refusal.specs.Order.{ifAccepted}
+use Rattle.offset.specs.Report.{reportHead}
 
 -- ---- the answers
 
 -- what a listing ensures of its verdict r and of what it leaves in the lent memory
 abbrev pub Lists : Table → List ℕ → List ℕ → Verdict → List ℕ → Type 0
 Lists t file before r after =
-    (r ≡ tableCheck t file (length before)) × ((reportHead r ≡ reportHead (tableCheck t file (length before))) × (after ≡ tableAfter t file before))
+    (r ≡ tableCheck t file (length before)) × ((reportHead file r ≡ reportHead file (tableCheck t file (length before))) × (after ≡ tableAfter t file before))
 
 module _ (t : Table) (file before : List ℕ) where
   -- of an accepted module l: by the room
@@ -51,13 +52,13 @@ module _ (t : Table) (file before : List ℕ) where
     unfolding tableCheck tableAfter
     table-listed {l} {r} {after} k p q =
         let c : r ≡ checkBy t (loadableAt file) (length before) = rw (← e, k) p in
-        (c, (ap reportHead c, rw (← c, ← e, k) q))
+        (c, (ap (reportHead file) c, rw (← c, ← e, k) q))
 
     pub table-refused : {x : Refusal} → a ≡ Refused x → Lists t file before (verdict.Refused x) before
     unfolding tableCheck tableAfter checkBy
     table-refused {x} k =
         let c : verdict.Refused x ≡ checkBy t (loadableAt file) (length before) = rw (← e, k) refl in
-        (c, (ap reportHead c, rw (← e, k) refl))
+        (c, (ap (reportHead file) c, rw (← e, k) refl))
 
 -- ---- the memory that a listing needs, by what `module_of` answers
 

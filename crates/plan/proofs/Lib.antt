@@ -4,3 +4,4 @@ pub mod Raw
 pub mod Fit
 pub mod Sound
 pub mod Demand3File
+pub mod Named

@@ -1,4 +1,5 @@
--- The laws of orders of checks and of reports, for the crates above.
+-- The laws of orders of checks, of their refusals and of reports, for the crates above.
 
 pub mod Order
+pub mod Causes
 pub mod Report

@@ -2,25 +2,14 @@
 use Prim.Native.Nat.{ℕ}
 use mathlib.Core.Path.{_≡_, refl, ap}
 use mathlib.Core.Bool.{false}
-use mathlib.Core.List.{List}
-use native.Mathlib.Omega.{arith}
 use lib.Dec.{eqb}
-use lib.ListN.{length}
 use Rattle.refusal.specs.declared.Refusal.{Refusal}
 use Rattle.refusal.specs.declared.Refusal.the-variants.{Short, Magic, Limit, Kind, Bounds, Address, Strings, Index, Aux, Name, Scnum, Csect, Module, Thread, Loader, Lsym, Lrel, Overlap, Plan, Room, Sheet, Record, Form, Clash, Visibility}
 use Rattle.refusal.specs.Refusal.{numberOf}
-use Rattle.refusal.specs.declared.RangeAnswer.{RangeAnswer}
-use Rattle.refusal.specs.declared.RangeAnswer.the-variants.{Found, Refused}
-use Rattle.refusal.specs.Part.{Within, reportOfRange, InFile}
 
 -- an answer that is as promised has the report that is promised
 pub reported : {A B : Type 0} (report : A → B) {a b : A} → a ≡ b → (a ≡ b) × (report a ≡ report b)
 reported report e = (e, ap report e)
-
--- a part of the file, as it is reported, lies inside it: on a refusal too, where offset and length are 0
-pub range-inside : (file : List ℕ) (a : RangeAnswer) → Within (length file) a → InFile file (reportOfRange a)
-range-inside file (Found p) h = h
-range-inside file (Refused x) h = omega arith
 
 -- no refusal has number 0
 pub number-not-zero : (x : Refusal) → eqb (numberOf x) 0 ≡ false

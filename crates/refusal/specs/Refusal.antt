@@ -137,10 +137,13 @@ itemOf Form = 0
 itemOf Clash = 0
 itemOf (Visibility i) = i .0
 
--- what every report starts with: the number and the item of a refusal, 0 and 0 where the call is accepted
-abbrev pub reportHead : Verdict → Head
-reportHead Accepted = record { number = 0; item = 0 }
-reportHead (Refused x) = record { number = numberOf x; item = itemOf x }
+-- what every report starts with: three zeros where the call is accepted
+abbrev pub acceptedHead : Head
+acceptedHead = record { number = 0; item = 0; offset = 0 }
+
+-- a refusal's number and item, and the offset of what the item names
+abbrev pub refusedHead : Refusal → ℕ → Head
+refusedHead x offset = record { number = numberOf x; item = itemOf x; offset = offset }
 
 -- 1 for yes, 0 for no
 abbrev pub oneIf : Bool → ℕ

@@ -1,8 +1,9 @@
 // Why a file, plan, sheet or buffer is refused: one case for each number of document 01, and under it one for each cause.
 ghost use mathlib.Core.Path.{_≡_};
 ghost use lib.ListN.{length};
-ghost use Rattle.refusal.specs.Part.{rangeBytes, Within, reportOfRange};
-ghost use Rattle.refusal.specs.Refusal.{numberOf, itemOf, reportHead, oneIf, isRefused, limitItem, boundsItem, addressItem, indexItem, moduleItem, threadItem, loaderItem, planItem, roomItem};
+ghost use Rattle.refusal.specs.Part.{rangeBytes, rangeFound, Within};
+ghost use Rattle.refusal.specs.Refusal.{numberOf, itemOf, acceptedHead, refusedHead, oneIf, isRefused, limitItem, boundsItem, addressItem, indexItem, moduleItem, threadItem, loaderItem, planItem, roomItem};
+use format::FileOffset;
 use format::FileRange;
 use format::SectionNumber;
 use format::SymbolIndex;
@@ -140,19 +141,13 @@ pub enum RangeAnswer {
     Refused(Refusal),
 }
 
-// What every report starts with: document 01's number, 0 where the call is accepted, and item.
+// What every report starts with: document 01's number, 0 where the call is accepted, its item, and where in the file what
+// the item names lies.
 #[repr(C)]
 pub struct Head {
     pub number: u64,
     pub item: u64,
-}
-
-// A part of the file by its offset and length.
-#[repr(C)]
-pub struct RangeReport {
-    pub head: Head,
     pub offset: u64,
-    pub length: u64,
 }
 
 fn limit_item(x: LimitItem) -> u64
@@ -321,17 +316,27 @@ pub fn item(x: Refusal) -> u64
     }
 }
 
-// The head of an answer's report: every report is made with it.
-pub fn report_head(v: Verdict) -> Head
-    ensures { λ r. ⌜ r ≡ reportHead v ⌝ }
+// The head of an accepted call's report.
+pub fn accepted_head() -> Head
+    ensures { λ r. ⌜ r ≡ acceptedHead ⌝ }
 {
-    match v {
-        Verdict::Accepted => Head { number: 0, item: 0 },
-        Verdict::Refused(x) => {
-            let number = number(x);
-            let item = item(x);
-            Head { number, item }
-        }
+    Head {
+        number: 0,
+        item: 0,
+        offset: 0,
+    }
+}
+
+// The head of a refusal's report, with the offset of what its item names.
+pub fn refused_head(x: Refusal, offset: u64) -> Head
+    ensures { λ r. ⌜ r ≡ refusedHead x offset ⌝ }
+{
+    let number = number(x);
+    let item = item(x);
+    Head {
+        number,
+        item,
+        offset,
     }
 }
 
@@ -368,22 +373,15 @@ pub fn part_of<'a>(file: &'a [u8], a: RangeAnswer) -> &'a [u8]
     &file[start..end]
 }
 
-pub fn report_range(a: RangeAnswer) -> RangeReport
-    ensures { λ r. ⌜ r ≡ reportOfRange a ⌝ }
+// Where the part lies: an empty range on a refusal.
+pub fn range_found(a: RangeAnswer) -> FileRange
+    ensures { λ r. ⌜ r ≡ rangeFound a ⌝ }
 {
     match a {
-        RangeAnswer::Refused(x) => RangeReport {
-            head: report_head(Verdict::Refused(x)),
-            offset: 0,
+        RangeAnswer::Found(p) => p,
+        RangeAnswer::Refused(_) => FileRange {
+            start: FileOffset(0),
             length: 0,
         },
-        RangeAnswer::Found(p) => {
-            let start = p.start;
-            RangeReport {
-                head: report_head(Verdict::Accepted),
-                offset: start.0,
-                length: p.length,
-            }
-        }
     }
 }

@@ -16,4 +16,4 @@ relocation-even file l j = refl
 module _ (file : List ℕ) where
   pub relocations-need : Needs relocations file (8 * moduleReport file .relocations)
   unfolding tableCheck
-  relocations-need = needs-by relocations (λ a. reportOfModule a .relocations) file (λ l. refl) (λ x. refl) (relocation-even file) (loadableAt file)
+  relocations-need = needs-by relocations (λ a. reportOfModule file a .relocations) file (λ l. refl) (λ x. refl) (relocation-even file) (loadableAt file)

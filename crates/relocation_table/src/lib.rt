@@ -7,7 +7,7 @@ ghost use Rattle.rows.specs.Rows.{rowsOf};
 ghost use Rattle.module_table.specs.Table.{checkBy, tableCheck, rowsBy, tableAfter};
 ghost use Rattle.relocation_table.specs.Rows.{relocationRow, relocations};
 ghost use Rattle.refusal.specs.Order.{ifAccepted};
-ghost use Rattle.refusal.specs.Refusal.{reportHead};
+ghost use Rattle.offset.specs.Report.{reportHead};
 use loadable::Loadable;
 use loadable::LoadableAnswer;
 use refusal::Verdict;
@@ -68,7 +68,7 @@ fn list_relocations(file: &[u8], l: Loadable, out: &mut [u64]) -> Verdict
 // A row of 8 numbers for each relocation entry.
 pub fn relocation_table(file: &[u8], out: &mut [u64]) -> Verdict
     ensures cause { λ r. ⌜ r ≡ tableCheck relocations (now (file .entry)) (length (now (out .entry))) ⌝ }
-    ensures report { λ r. ⌜ reportHead r ≡ reportHead (tableCheck relocations (now (file .entry)) (length (now (out .entry)))) ⌝ }
+    ensures report { λ r. ⌜ reportHead (now (file .entry)) r ≡ reportHead (now (file .entry)) (tableCheck relocations (now (file .entry)) (length (now (out .entry)))) ⌝ }
     ensures rows { λ _. ⌜ now (out .exit) ≡ tableAfter relocations (now (file .entry)) (now (out .entry)) ⌝ }
 {
     let a = loadable::module_of(file);

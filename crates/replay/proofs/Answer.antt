@@ -110,15 +110,15 @@ counted-bounds s at e calls accepted n a p nz c v =
 -- where no call is, the script is run: what it answers, and leaves, in the words of the contract
 pub replayed : (file s : List ℕ) (at : ℕ) (t : ReplayAnswer) (x y : Images) → callEnd s at ≡ 0 → Left (relocatableAt file) s at t x y
     → (t ≡ replayAnswer (relocatableAt file) (callsOf s) y)
-    × ((reportOfReplay t ≡ reportOfReplay (replayAnswer (relocatableAt file) (callsOf s) y)) × (x ≡ bookImages (relocatableAt file) (bookAfter (relocatableAt file) (callsOf s) y)))
+    × ((reportOfReplay file t ≡ reportOfReplay file (replayAnswer (relocatableAt file) (callsOf s) y)) × (x ≡ bookImages (relocatableAt file) (bookAfter (relocatableAt file) (callsOf s) y)))
 replayed file s at t x y e l =
     let n = left-none (relocatableAt file) s at t x y e l in
-    (n .0, (ap (λ (r : ReplayAnswer). reportOfReplay r) (n .0), n .1 ∙ sym (replay-run file s y)))
+    (n .0, (ap (λ (r : ReplayAnswer). reportOfReplay file r) (n .0), n .1 ∙ sym (replay-run file s y)))
 
 -- the report is made of the last call's
-pub reported : (a : ReplayAnswer) (r : CallReport) → r ≡ reportOfCall (a .last)
-    → record { head = r .head; «has_entry» = r .«has_entry»; entry = r .entry; «has_toc» = r .«has_toc»; toc = r .toc; calls = a .calls; accepted = a .accepted } ≡ reportOfReplay a
-reported a r e =
+pub reported : (file : List ℕ) (a : ReplayAnswer) (r : CallReport) → r ≡ reportOfCall file (a .last)
+    → record { head = r .head; «has_entry» = r .«has_entry»; entry = r .entry; «has_toc» = r .«has_toc»; toc = r .toc; calls = a .calls; accepted = a .accepted } ≡ reportOfReplay file a
+reported file a r e =
     ap (λ (r : CallReport). record { head = r .head; «has_entry» = r .«has_entry»; entry = r .entry; «has_toc» = r .«has_toc»; toc = r .toc; calls = a .calls; accepted = a .accepted }) e
 
 -- ---- what the answer tells

@@ -40,14 +40,14 @@ unfoldable pub replayAnswer : Relocatable → List Call → Images → ReplayAns
 replayAnswer m cs x = record { calls = length cs; accepted = acceptedAmong (answersOf m cs x); last = lastOf blank (answersOf m cs x) }
 
 -- the last call's answer in document 01's numbers, and the counts
-abbrev pub reportOfReplay : ReplayAnswer → ReplayReport
-reportOfReplay a =
+abbrev pub reportOfReplay : List ℕ → ReplayAnswer → ReplayReport
+reportOfReplay file a =
     record {
-      head = reportOfCall (a .last) .head;
-      «has_entry» = reportOfCall (a .last) .«has_entry»;
-      entry = reportOfCall (a .last) .entry;
-      «has_toc» = reportOfCall (a .last) .«has_toc»;
-      toc = reportOfCall (a .last) .toc;
+      head = reportOfCall file (a .last) .head;
+      «has_entry» = reportOfCall file (a .last) .«has_entry»;
+      entry = reportOfCall file (a .last) .entry;
+      «has_toc» = reportOfCall file (a .last) .«has_toc»;
+      toc = reportOfCall file (a .last) .toc;
       calls = a .calls;
       accepted = a .accepted;
     }

@@ -146,7 +146,7 @@ fn accepted_one(a: CallAnswer) -> u64
 // the last answer is a blank one.
 pub fn replay(file: &[u8], script: &[u64], text: &mut [u8], data: &mut [u8]) -> ReplayAnswer
     ensures cause { λ r. ⌜ r ≡ replayAnswer (relocatableAt (now (file .entry))) (callsOf (now (script .entry))) (images (now (text .entry)) (now («data» .entry))) ⌝ }
-    ensures report { λ r. ⌜ reportOfReplay r ≡ reportOfReplay (replayAnswer (relocatableAt (now (file .entry))) (callsOf (now (script .entry))) (images (now (text .entry)) (now («data» .entry)))) ⌝ }
+    ensures report { λ r. ⌜ reportOfReplay (now (file .entry)) r ≡ reportOfReplay (now (file .entry)) (replayAnswer (relocatableAt (now (file .entry))) (callsOf (now (script .entry))) (images (now (text .entry)) (now («data» .entry)))) ⌝ }
     ensures images { λ _. ⌜ images (now (text .exit)) (now («data» .exit)) ≡ bookImages (relocatableAt (now (file .entry))) (bookAfter (relocatableAt (now (file .entry))) (callsOf (now (script .entry))) (images (now (text .entry)) (now («data» .entry)))) ⌝ }
 {
     let blank = Reached {
@@ -178,11 +178,11 @@ pub fn replay(file: &[u8], script: &[u64], text: &mut [u8], data: &mut [u8]) -> 
     }
 }
 
-pub fn report_replay(a: ReplayAnswer) -> ReplayReport
-    ensures { λ r. ⌜ r ≡ reportOfReplay a ⌝ }
+pub fn report_replay(file: &[u8], a: ReplayAnswer) -> ReplayReport
+    ensures { λ r. ⌜ r ≡ reportOfReplay (now (file .entry)) a ⌝ }
 {
     let answer = a.last;
-    let last = image::report_call(answer);
+    let last = image::report_call(file, answer);
     let head = last.head;
     ReplayReport {
         head,

@@ -4,12 +4,13 @@ use mathlib.Core.Bool.{Bool, true, false, cond, not, _&&_, _||_}
 use mathlib.Core.List.{List, [], _∷_}
 use mathlib.Core.Logic.{_⊎_, inl, inr, ⊎-elim}
 use Prim.Native.Nat.{ℕ, zero, suc, _+_, _/_, _%_, _≤_, _<_}
+use native.Mathlib.Decide.{ℕ-discrete}
 use native.Mathlib.Omega.{arith}
 use borrow.Author.Tests.{eqb-true, eq-eqb, ne-eqb}
 use lib.Dec.{eqb}
 use lib.ListN.{length, getD}
 use Rattle.section_kind.specs.declared.SectionKind.{SectionKind}
-use Rattle.section_kind.specs.declared.SectionKind.the-variants.{Deleted, Dwarf}
+use Rattle.section_kind.specs.declared.SectionKind.the-variants.{Deleted, Dwarf, Loader}
 use Rattle.section_kind.specs.declared.KindAnswer.{KindAnswer}
 use Rattle.section_kind.specs.declared.KindAnswer.the-variants.{Allowed, NotAllowed}
 use Rattle.section_kind.specs.Kind.{flagsOf, kinds, kindIn, listedKind, kindOf}
@@ -120,3 +121,31 @@ listed-allowed flags k n r = rw (ne-eqb flags 0xFFFFFFFF n) (by-high (r .high))
         or-kept : (b : Bool) → cond (b || true) (kindIn (flags % 65536) kinds) NotAllowed ≡ Allowed k
         or-kept true = found
         or-kept false = found
+
+-- ---- the flags of the loader section
+
+-- a kind other than deleted has the flags themselves, or is dwarf
+flags-or-dwarf : (flags : ℕ) (k : SectionKind) → Names flags k → (flagsOf k ≡ flags) ⊎ (k ≡ Dwarf)
+flags-or-dwarf flags k r = by (r .high)
+  where
+    by : (flags / 65536 ≡ 0) ⊎ (k ≡ Dwarf) → (flagsOf k ≡ flags) ⊎ (k ≡ Dwarf)
+    by (inl z) = inl (let e = r .low in omega arith)
+    by (inr d) = inr d
+
+-- a section is the loader's by its kind exactly where its header has the loader's flags
+pub loader-flags : (flags : ℕ) (k : SectionKind) → kindOf flags ≡ Allowed k → eqb (flagsOf k) (flagsOf Loader) ≡ eqb flags (flagsOf Loader)
+loader-flags flags k e = by (ℕ-discrete flags 0xFFFFFFFF)
+  where
+    listed : (r : Names flags k) → (flagsOf k ≡ flags) ⊎ (k ≡ Dwarf) → eqb (flagsOf k) (flagsOf Loader) ≡ eqb flags (flagsOf Loader)
+    listed r (inl q) = rw q refl
+    listed r (inr d) =
+        let low : 16 ≡ flags % 65536 = rw d at (r .low) in
+        let other : flags ≡ flagsOf Loader → ⊥ = λ q. (let m : 16 ≡ 4096 % 65536 = rw q at low in absurd (omega arith)) in
+        rw (d, ne-eqb flags (flagsOf Loader) other) refl
+
+    deleted : flags ≡ 0xFFFFFFFF → Deleted ≡ k
+    deleted q = unfold kindOf in let a : Allowed Deleted ≡ Allowed k = rw (eq-eqb flags 0xFFFFFFFF q) at e in cc
+
+    by : Dec (flags ≡ 0xFFFFFFFF) → eqb (flagsOf k) (flagsOf Loader) ≡ eqb flags (flagsOf Loader)
+    by (yes q) = let d = deleted q in rw (← d, q) refl
+    by (no n) = let r = allowed-listed flags k n e in listed r (flags-or-dwarf flags k r)

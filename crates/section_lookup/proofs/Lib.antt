@@ -1,2 +1,3 @@
 -- The laws that the proofs of this crate's functions cite, and those of the crates above.
 pub mod Lookup
+pub mod Named

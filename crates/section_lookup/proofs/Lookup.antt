@@ -19,9 +19,10 @@ use Rattle.refusal.specs.declared.RangeAnswer.the-variants as range
 use Rattle.refusal.specs.declared.Verdict.{Verdict}
 use Rattle.refusal.specs.declared.Verdict.the-variants as verdict
 use Rattle.refusal.specs.Order.{_orElse_, byVerdict}
-use Rattle.refusal.specs.Part.{Within, reportOfRange, InFile}
-use Rattle.refusal.proofs.Report.{range-inside}
+use Rattle.refusal.specs.Part.{Within}
+use Rattle.offset.proofs.Report.{range-inside}
 use Rattle.refusal.proofs.Order.{accepted-first, accepted-rest, accepted-test}
+use Rattle.offset.specs.Report.{reportOfRange, InFile}
 use Rattle.section.specs.declared.SectionAnswer.the-variants.{Found, Refused}
 use Rattle.header.specs.declared.Opened.{Opened}
 use Rattle.file_header.specs.Header.{sectionStart}
@@ -101,5 +102,5 @@ module _ (file : List ℕ) (n : SectionNumber) where
   unfolding sectionNameAt
   name-within = name-in (lookupCheck file n) refl
 
-  pub section-name-inside : InFile file (reportOfRange (sectionNameAt file n))
+  pub section-name-inside : InFile file (reportOfRange file (sectionNameAt file n))
   section-name-inside = range-inside file (sectionNameAt file n) name-within

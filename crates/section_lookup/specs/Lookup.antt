@@ -13,10 +13,10 @@ use Rattle.refusal.specs.declared.RangeAnswer.{RangeAnswer}
 use Rattle.refusal.specs.declared.Refusal.the-variants.{Index}
 use Rattle.refusal.specs.declared.IndexItem.the-variants.{NoSection}
 use Rattle.refusal.specs.declared.Verdict.{Verdict}
-use Rattle.refusal.specs.declared.Verdict.the-variants as verdict
 use Rattle.refusal.specs.Order.{_orElse_, refuseIf, byVerdict}
 use Rattle.refusal.specs.declared.RangeAnswer.the-variants as range
-use Rattle.refusal.specs.Refusal.{reportHead, oneIf}
+use Rattle.refusal.specs.Refusal.{acceptedHead, oneIf}
+use Rattle.offset.specs.Report.{refusalHead}
 use Rattle.section.specs.declared.SectionAnswer.{SectionAnswer}
 use Rattle.section.specs.declared.SectionAnswer.the-variants.{Found, Refused}
 use Rattle.header.specs.declared.Summary.{Summary}
@@ -44,10 +44,10 @@ unfoldable pub sectionNameAt : List ℕ → SectionNumber → RangeAnswer
 sectionNameAt file n = byVerdict (lookupCheck file n) (range.Found (nameOf file (openOf file .summary) n)) range.Refused
 
 -- the answer in document 01's numbers
-abbrev pub reportOfSection : SectionAnswer → SectionReport
-reportOfSection (Found s) =
+abbrev pub reportOfSection : List ℕ → SectionAnswer → SectionReport
+reportOfSection file (Found s) =
     record {
-      head = reportHead verdict.Accepted;
+      head = acceptedHead;
       paddr = s .paddr .0;
       vaddr = s .vaddr .0;
       size = s .size;
@@ -55,8 +55,8 @@ reportOfSection (Found s) =
       flag = flagsOf (s .kind) % 65536;
       raw = oneIf (s .raw);
     }
-reportOfSection (Refused x) =
-    record { head = reportHead (verdict.Refused x); paddr = 0; vaddr = 0; size = 0; scnptr = 0; flag = 0; raw = 0 }
+reportOfSection file (Refused x) =
+    record { head = refusalHead file x; paddr = 0; vaddr = 0; size = 0; scnptr = 0; flag = 0; raw = 0 }
 
 abbrev pub sectionReport : List ℕ → SectionNumber → SectionReport
-sectionReport file n = reportOfSection (sectionAt file n)
+sectionReport file n = reportOfSection file (sectionAt file n)

@@ -2,7 +2,8 @@
 ghost use mathlib.Core.Path.{_≡_};
 ghost use Prim.Native.Nat.{_<_};
 ghost use Rattle.refusal.specs.Order.{_orElse_};
-ghost use Rattle.refusal.specs.Part.{rangeBytes, reportOfRange};
+ghost use Rattle.offset.specs.Report.{reportOfRange};
+ghost use Rattle.refusal.specs.Part.{rangeBytes};
 ghost use Rattle.section_lookup.specs.Lookup.{numberCheck, sectionAt, sectionReport, reportOfSection, sectionNameAt};
 use format::SectionNumber;
 use refusal::Head;
@@ -43,7 +44,7 @@ fn check_number(v: Verdict, count: u64, n: SectionNumber) -> Verdict
 // The record of section `n`.
 pub fn section_at(file: &[u8], n: SectionNumber) -> SectionAnswer
     ensures cause { λ r. ⌜ r ≡ sectionAt (now (file .entry)) n ⌝ }
-    ensures report { λ r. ⌜ reportOfSection r ≡ sectionReport (now (file .entry)) n ⌝ }
+    ensures report { λ r. ⌜ reportOfSection (now (file .entry)) r ≡ sectionReport (now (file .entry)) n ⌝ }
 {
     let o = header::open(file);
     let s = o.summary;
@@ -62,7 +63,7 @@ pub fn section_at(file: &[u8], n: SectionNumber) -> SectionAnswer
 // Where the name of section `n` lies.
 pub fn section_name_range(file: &[u8], n: SectionNumber) -> RangeAnswer
     ensures cause { λ r. ⌜ r ≡ sectionNameAt (now (file .entry)) n ⌝ }
-    ensures report { λ r. ⌜ reportOfRange r ≡ reportOfRange (sectionNameAt (now (file .entry)) n) ⌝ }
+    ensures report { λ r. ⌜ reportOfRange (now (file .entry)) r ≡ reportOfRange (now (file .entry)) (sectionNameAt (now (file .entry)) n) ⌝ }
 {
     let o = header::open(file);
     let s = o.summary;
@@ -88,12 +89,12 @@ pub fn section_name<'a>(file: &'a [u8], n: SectionNumber) -> &'a [u8]
     refusal::part_of(file, a)
 }
 
-pub fn report_section(a: SectionAnswer) -> SectionReport
-    ensures { λ r. ⌜ r ≡ reportOfSection a ⌝ }
+pub fn report_section(file: &[u8], a: SectionAnswer) -> SectionReport
+    ensures { λ r. ⌜ r ≡ reportOfSection (now (file .entry)) a ⌝ }
 {
     match a {
         SectionAnswer::Refused(x) => SectionReport {
-            head: refusal::report_head(Verdict::Refused(x)),
+            head: offset::refusal_head(file, x),
             paddr: 0,
             vaddr: 0,
             size: 0,
@@ -107,7 +108,7 @@ pub fn report_section(a: SectionAnswer) -> SectionReport
             let scnptr = s.scnptr;
             let kind = s.kind;
             SectionReport {
-                head: refusal::report_head(Verdict::Accepted),
+                head: refusal::accepted_head(),
                 paddr: paddr.0,
                 vaddr: vaddr.0,
                 size: s.size,

@@ -14,12 +14,12 @@ use Rattle.refusal.specs.declared.RoomItem.the-variants.{SheetBuffer}
 use Rattle.refusal.specs.declared.Verdict.{Verdict}
 use Rattle.refusal.specs.declared.Verdict.the-variants as verdict
 use Rattle.refusal.specs.Order.{_orElse_, refuseIf, byVerdict, ifAccepted}
-use Rattle.refusal.specs.Refusal.{isRefused, reportHead}
+use Rattle.refusal.specs.Refusal.{isRefused}
 use Rattle.refusal.proofs.Order.{accepts, accepted-first, accepted-rest, accepted-equal, accepted-most}
 use Rattle.sheet.specs.declared.SheetAnswer.{SheetAnswer}
 use Rattle.sheet.specs.declared.SheetAnswer.the-variants.{Found, Refused}
 use Rattle.sheet.specs.declared.SheetHead.{SheetHead}
-use Rattle.sheet.specs.Sheet.{headLength, sheetLength, firstCount, headOf, numbersFrom, addressesOf, addressBytes, sheetCheck, roomCheck, readCheck, headAnswer, readAnswer, readList, sheetBytes, writeCheck, writeSheet, reportOfSheet}
+use Rattle.sheet.specs.Sheet.{headLength, sheetLength, firstCount, headOf, numbersFrom, addressesOf, addressBytes, sheetCheck, roomCheck, readCheck, headAnswer, readAnswer, readList, sheetBytes, writeCheck, writeSheet, reportOfSheet, sheetHead}
 use Rattle.sheet.proofs.Addresses.{sheet-written}
 use Rattle.format.specs.Limit.{sheetListLimit}
 
@@ -60,7 +60,7 @@ Reads w s l r l′ =
 abbrev pub Writes : ℕ → ℕ → ℕ → List ℕ → List ℕ → Verdict → List ℕ → Type 0
 Writes w text dat list sheet v sheet′ =
     (v ≡ writeCheck w (length list) (length sheet))
-    × ((reportHead v ≡ reportHead (writeCheck w (length list) (length sheet))) × (sheet′ ≡ writeSheet w text dat list sheet))
+    × ((sheetHead v ≡ sheetHead (writeCheck w (length list) (length sheet))) × (sheet′ ≡ writeSheet w text dat list sheet))
 
 -- the answers by the check of the sheet
 module _ (w : ℕ) (s : List ℕ) {v : Verdict} (e : v ≡ sheetCheck w s) where
@@ -103,12 +103,12 @@ module _ (w text dat : ℕ) (list sheet : List ℕ) {v : Verdict} (e : v ≡ wri
   unfolding writeSheet
   written k p q =
       let c = sym (accepts v k) ∙ e in
-      (c, (ap reportHead c, rw (← c) (q ∙ rw p (sheet-written w text dat list sheet (room-enough w list sheet e k .1)))))
+      (c, (ap sheetHead c, rw (← c) (q ∙ rw p (sheet-written w text dat list sheet (room-enough w list sheet e k .1)))))
 
   -- it refuses, and the sheet is as it was
   pub unwritten : isRefused v ≡ true → Writes w text dat list sheet v sheet
   unfolding writeSheet
-  unwritten k = (e, (ap reportHead e, rw (← e) (as-before v k)))
+  unwritten k = (e, (ap sheetHead e, rw (← e) (as-before v k)))
     where
       as-before : (u : Verdict) → isRefused u ≡ true → sheet ≡ ifAccepted u (sheetBytes w text dat list) sheet
       as-before verdict.Accepted r = cc

@@ -12,7 +12,8 @@ use Rattle.refusal.specs.declared.RoomItem.the-variants.{SheetBuffer, AddressLi
 use Rattle.refusal.specs.declared.Verdict.{Verdict}
 use Rattle.refusal.specs.declared.Verdict.the-variants as verdict
 use Rattle.refusal.specs.Order.{_orElse_, refuseIf, byVerdict, ifAccepted}
-use Rattle.refusal.specs.Refusal.{reportHead}
+use Rattle.refusal.specs.declared.Head.{Head}
+use Rattle.refusal.specs.Refusal.{acceptedHead, refusedHead}
 use Rattle.sheet.specs.declared.SheetAnswer.{SheetAnswer}
 use Rattle.sheet.specs.declared.SheetAnswer.the-variants.{Found, Refused}
 use Rattle.sheet.specs.declared.SheetHead.{SheetHead}
@@ -91,7 +92,12 @@ writeCheck w k room =
 unfoldable pub writeSheet : ℕ → ℕ → ℕ → List ℕ → List ℕ → List ℕ
 writeSheet w text dat list sheet = ifAccepted (writeCheck w (length list) (length sheet)) (sheetBytes w text dat list) sheet
 
+-- what reports on sheets start with: there is no file, and the offset is 0
+abbrev pub sheetHead : Verdict → Head
+sheetHead verdict.Accepted = acceptedHead
+sheetHead (verdict.Refused x) = refusedHead x 0
+
 -- the answer in document 01's numbers
 abbrev pub reportOfSheet : SheetAnswer → SheetReport
-reportOfSheet (Found h) = record { head = reportHead verdict.Accepted; text = h .text .0; «data» = h .«data» .0; count = h .count }
-reportOfSheet (Refused x) = record { head = reportHead (verdict.Refused x); text = 0; «data» = 0; count = 0 }
+reportOfSheet (Found h) = record { head = acceptedHead; text = h .text .0; «data» = h .«data» .0; count = h .count }
+reportOfSheet (Refused x) = record { head = refusedHead x 0; text = 0; «data» = 0; count = 0 }

@@ -6,8 +6,7 @@ ghost use lib.Seq.{sets};
 ghost use Rattle.update.specs.Update.{putField};
 ghost use Rattle.format.specs.Limit.{sheetListLimit};
 ghost use Rattle.refusal.specs.Order.{byVerdict, ifAccepted};
-ghost use Rattle.sheet.specs.Sheet.{headLength, sheetLength, headOf, numbersFrom, sheetCheck, roomCheck, headAnswer, readAnswer, readList, addressBytes, writeCheck, writeSheet, reportOfSheet};
-ghost use Rattle.refusal.specs.Refusal.{reportHead};
+ghost use Rattle.sheet.specs.Sheet.{headLength, sheetLength, headOf, numbersFrom, sheetCheck, roomCheck, headAnswer, readAnswer, readList, addressBytes, writeCheck, writeSheet, sheetHead, reportOfSheet};
 use format::VirtualAddress;
 use refusal::Head;
 use refusal::LimitItem;
@@ -175,7 +174,7 @@ pub fn write_sheet(
     sheet: &mut [u8],
 ) -> Verdict
     ensures cause { λ r. ⌜ r ≡ writeCheck 2 (length (now (list .entry))) (length (now (sheet .entry))) ⌝ }
-    ensures report { λ r. ⌜ reportHead r ≡ reportHead (writeCheck 2 (length (now (list .entry))) (length (now (sheet .entry)))) ⌝ }
+    ensures report { λ r. ⌜ sheetHead r ≡ sheetHead (writeCheck 2 (length (now (list .entry))) (length (now (sheet .entry)))) ⌝ }
     ensures sheet { λ _. ⌜ now (sheet .exit) ≡ writeSheet 2 (text .0) («data» .0) (now (list .entry)) (now (sheet .entry)) ⌝ }
 {
     let v = check_write(list.len() as u64, sheet.len() as u64);
@@ -187,6 +186,16 @@ pub fn write_sheet(
     Verdict::Accepted
 }
 
+// The head of a report on a sheet: there is no file, and the offset is 0.
+pub fn report_head(v: Verdict) -> Head
+    ensures { λ r. ⌜ r ≡ sheetHead v ⌝ }
+{
+    match v {
+        Verdict::Accepted => refusal::accepted_head(),
+        Verdict::Refused(x) => refusal::refused_head(x, 0),
+    }
+}
+
 pub fn report_sheet(a: SheetAnswer) -> SheetReport
     ensures { λ r. ⌜ r ≡ reportOfSheet a ⌝ }
 {
@@ -195,14 +204,14 @@ pub fn report_sheet(a: SheetAnswer) -> SheetReport
             let text = h.text;
             let data = h.data;
             SheetReport {
-                head: refusal::report_head(Verdict::Accepted),
+                head: refusal::accepted_head(),
                 text: text.0,
                 data: data.0,
                 count: h.count,
             }
         }
         SheetAnswer::Refused(x) => SheetReport {
-            head: refusal::report_head(Verdict::Refused(x)),
+            head: refusal::refused_head(x, 0),
             text: 0,
             data: 0,
             count: 0,

@@ -5,3 +5,4 @@ pub mod Names
 pub mod Sections
 pub mod Checks
 pub mod Figures
+pub mod Named

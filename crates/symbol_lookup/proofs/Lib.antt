@@ -2,3 +2,4 @@
 
 pub mod Names
 pub mod Lookup
+pub mod Named

@@ -12,8 +12,9 @@ use Rattle.refusal.specs.declared.RangeAnswer.the-variants as range
 use Rattle.refusal.specs.declared.Verdict.{Verdict}
 use Rattle.refusal.specs.declared.Verdict.the-variants as verdict
 use Rattle.refusal.specs.Order.{byVerdict}
-use Rattle.refusal.specs.Part.{rangeBytes, Within, reportOfRange, InFile}
-use Rattle.refusal.proofs.Report.{range-inside}
+use Rattle.refusal.specs.Part.{rangeBytes, Within}
+use Rattle.offset.specs.Report.{reportOfRange, InFile}
+use Rattle.offset.proofs.Report.{range-inside}
 use Rattle.header.specs.declared.Opened.{Opened}
 use Rattle.header.specs.Open.{openOf}
 use Rattle.symbol.specs.declared.Tables.{Tables}
@@ -41,8 +42,8 @@ module _ (file : List ℕ) (i : SymbolIndex) where
   unfolding symbolAt
   at-opened o = rw (o .accepted, o .tables)
 
-  pub symbol-reported : {a : SymbolAnswer} → a ≡ symbolAt file i → (a ≡ symbolAt file i) × (reportOfSymbol a ≡ symbolReport file i)
-  symbol-reported e = (e, ap reportOfSymbol e)
+  pub symbol-reported : {a : SymbolAnswer} → a ≡ symbolAt file i → (a ≡ symbolAt file i) × (reportOfSymbol file a ≡ symbolReport file i)
+  symbol-reported e = (e, ap (reportOfSymbol file) e)
 
   -- where a symbol is found, the file is accepted and the symbol is in its tables
   pub found-in : {s : Symbol} → symbolAt file i ≡ Found s → OpenTables file (tablesAt file) × (symbolIn file (tablesAt file) i ≡ Found s)
@@ -75,7 +76,7 @@ module _ (file : List ℕ) (i : SymbolIndex) where
   unfolding symbolNameAt
   name-within = name-in (symbolAt file i) refl
 
-  pub symbol-name-inside : InFile file (reportOfRange (symbolNameAt file i))
+  pub symbol-name-inside : InFile file (reportOfRange file (symbolNameAt file i))
   symbol-name-inside = range-inside file (symbolNameAt file i) name-within
 
   -- and its bytes hold no zero

@@ -6,9 +6,9 @@ use lib.IntN.{ℤ, pos, negsuc}
 use Rattle.format.specs.declared.SymbolIndex.{SymbolIndex}
 use Rattle.refusal.specs.declared.RangeAnswer.{RangeAnswer}
 use Rattle.refusal.specs.declared.RangeAnswer.the-variants as range
-use Rattle.refusal.specs.declared.Verdict.the-variants as verdict
-use Rattle.refusal.specs.Refusal.{reportHead, oneIf}
+use Rattle.refusal.specs.Refusal.{acceptedHead, oneIf}
 use Rattle.refusal.specs.Order.{byVerdict}
+use Rattle.offset.specs.Report.{refusalHead}
 use Rattle.header.specs.Open.{openOf}
 use Rattle.visibility.specs.declared.Visibility.{Visibility}
 use Rattle.visibility.specs.declared.Visibility.the-variants.{NotClaimed, Claimed}
@@ -48,10 +48,10 @@ visibilityNumber NotClaimed = 0
 visibilityNumber (Claimed n) = n
 
 -- the answer in the documents' numbers
-abbrev pub reportOfSymbol : SymbolAnswer → SymbolReport
-reportOfSymbol (Found s) =
+abbrev pub reportOfSymbol : List ℕ → SymbolAnswer → SymbolReport
+reportOfSymbol file (Found s) =
     record {
-      head = reportHead verdict.Accepted;
+      head = acceptedHead;
       value = s .value;
       scnum = signed64 (scnumOf (s .section));
       ntype = s .ntype;
@@ -60,9 +60,9 @@ reportOfSymbol (Found s) =
       «has_visibility» = oneIf (claims (s .visibility));
       visibility = visibilityNumber (s .visibility);
     }
-reportOfSymbol (Refused x) =
+reportOfSymbol file (Refused x) =
     record {
-      head = reportHead (verdict.Refused x);
+      head = refusalHead file x;
       value = 0;
       scnum = 0;
       ntype = 0;
@@ -73,4 +73,4 @@ reportOfSymbol (Refused x) =
     }
 
 abbrev pub symbolReport : List ℕ → SymbolIndex → SymbolReport
-symbolReport file i = reportOfSymbol (symbolAt file i)
+symbolReport file i = reportOfSymbol file (symbolAt file i)

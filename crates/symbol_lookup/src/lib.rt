@@ -1,6 +1,7 @@
 // A symbol and its name, looked up by the symbol's index.
 ghost use mathlib.Core.Path.{_≡_};
-ghost use Rattle.refusal.specs.Part.{rangeBytes, reportOfRange};
+ghost use Rattle.offset.specs.Report.{reportOfRange};
+ghost use Rattle.refusal.specs.Part.{rangeBytes};
 ghost use Rattle.symbol.specs.Entry.{OpenTables};
 ghost use Rattle.symbol.specs.Symbol.{scnumOf, symbolIn};
 ghost use Rattle.symbol_lookup.specs.Lookup.{symbolAt, nameBehind, symbolNameAt, signed64, claims, visibilityNumber, reportOfSymbol, symbolReport};
@@ -30,7 +31,7 @@ pub struct SymbolReport {
 // The symbol at an index: opening's refusals, then INDEX, AUX, SECTION, NAME, VISIBILITY.
 pub fn symbol_at(file: &[u8], i: SymbolIndex) -> SymbolAnswer
     ensures cause { λ r. ⌜ r ≡ symbolAt (now (file .entry)) i ⌝ }
-    ensures report { λ r. ⌜ reportOfSymbol r ≡ symbolReport (now (file .entry)) i ⌝ }
+    ensures report { λ r. ⌜ reportOfSymbol (now (file .entry)) r ≡ symbolReport (now (file .entry)) i ⌝ }
 {
     let o = header::open(file);
     let v = o.verdict;
@@ -63,7 +64,7 @@ fn name_in(file: &[u8], t: Tables, i: SymbolIndex) -> RangeAnswer
 // Where the name of the symbol at an index lies; the refusals are those of `symbol_at`.
 pub fn symbol_name_range(file: &[u8], i: SymbolIndex) -> RangeAnswer
     ensures cause { λ r. ⌜ r ≡ symbolNameAt (now (file .entry)) i ⌝ }
-    ensures report { λ r. ⌜ reportOfRange r ≡ reportOfRange (symbolNameAt (now (file .entry)) i) ⌝ }
+    ensures report { λ r. ⌜ reportOfRange (now (file .entry)) r ≡ reportOfRange (now (file .entry)) (symbolNameAt (now (file .entry)) i) ⌝ }
 {
     let o = header::open(file);
     let v = o.verdict;
@@ -114,12 +115,12 @@ fn bits_of(v: Visibility) -> u64
     }
 }
 
-pub fn report_symbol(a: SymbolAnswer) -> SymbolReport
-    ensures { λ r. ⌜ r ≡ reportOfSymbol a ⌝ }
+pub fn report_symbol(file: &[u8], a: SymbolAnswer) -> SymbolReport
+    ensures { λ r. ⌜ r ≡ reportOfSymbol (now (file .entry)) a ⌝ }
 {
     match a {
         SymbolAnswer::Refused(x) => SymbolReport {
-            head: refusal::report_head(Verdict::Refused(x)),
+            head: offset::refusal_head(file, x),
             value: 0,
             scnum: 0,
             ntype: 0,
@@ -132,7 +133,7 @@ pub fn report_symbol(a: SymbolAnswer) -> SymbolReport
             let section = s.section;
             let v = s.visibility;
             SymbolReport {
-                head: refusal::report_head(Verdict::Accepted),
+                head: refusal::accepted_head(),
                 value: s.value,
                 scnum: scnum_of(section),
                 ntype: s.ntype,

@@ -47,10 +47,10 @@ in-table : (file : List ℕ) (t : Tables) (i : SymbolIndex) {s : Symbol} → sym
 unfolding csectIn csectAfter ownAfter
 in-table file t i {s} e = rw e (held file t i (ownCsect file t i s) (own file t i s))
 
-number-of : (a : CsectAnswer) → Csect12 a → (reportOfCsect a .head .number ≡ 0) ⊎ (reportOfCsect a .head .number ≡ 12)
-number-of (Found c) e = inl refl
-number-of (Refused x) e = inr e
+number-of : (file : List ℕ) (a : CsectAnswer) → Csect12 a → (reportOfCsect file a .head .number ≡ 0) ⊎ (reportOfCsect file a .head .number ≡ 12)
+number-of file (Found c) e = inl refl
+number-of file (Refused x) e = inr e
 
 -- of a symbol that is found
 pub csect-number : (file : List ℕ) (t : Tables) → OpenTables file t → (i : SymbolIndex) {s : Symbol} → symbolIn file t i ≡ symbol.Found s → (csectReport file i .head .number ≡ 0) ⊎ (csectReport file i .head .number ≡ 12)
-csect-number file t o i e = rw (csect-is file t o i refl) (number-of (csectIn file t i) (in-table file t i e))
+csect-number file t o i e = rw (csect-is file t o i refl) (number-of file (csectIn file t i) (in-table file t i e))

@@ -4,3 +4,4 @@ pub mod Names
 pub mod Opened
 pub mod Csects
 pub mod Visits
+pub mod Named

@@ -115,11 +115,11 @@ module _ (file : List ℕ) (t : Tables) where
 -- what a listing ensures of its answer r and of what it leaves in the lent memory
 abbrev pub Lists : List ℕ → List ℕ → WalkAnswer → List ℕ → Type 0
 Lists file before r after =
-    (r ≡ symbolTable file (length before)) × ((reportOfWalk r ≡ reportOfWalk (symbolTable file (length before))) × (after ≡ symbolsAfter file before))
+    (r ≡ symbolTable file (length before)) × ((reportOfWalk file r ≡ reportOfWalk file (symbolTable file (length before))) × (after ≡ symbolsAfter file before))
 
 module _ (file before : List ℕ) where
   pub table-refused : {o : Opened} {x : Refusal} → o ≡ openOf file → o .verdict ≡ verdict.Refused x → Lists file before (Refused x) before
-  table-refused {o} {x} e k = (answer, (ap reportOfWalk answer, after))
+  table-refused {o} {x} e k = (answer, (ap (reportOfWalk file) answer, after))
     where
       answer : Refused x ≡ symbolTable file (length before)
       answer = unfold symbolTable tableCheck in rw (rw e at k) refl
@@ -128,7 +128,7 @@ module _ (file before : List ℕ) where
       after = unfold symbolsAfter tableCheck in rw (rw e at k) refl
 
   pub table-listed : {t : Tables} {r : WalkAnswer} {after : List ℕ} → OpenTables file t → r ≡ byVerdict (roomFor file t (length before)) (Ended (walkIn file t)) Refused → after ≡ ifAccepted (roomFor file t (length before)) (rowsIn file t) before → Lists file before r after
-  table-listed {t} {r} {after} o p z = (answer, (ap reportOfWalk answer, left))
+  table-listed {t} {r} {after} o p z = (answer, (ap (reportOfWalk file) answer, left))
     where
       answer : r ≡ symbolTable file (length before)
       answer = unfold symbolTable tableCheck in rw (o .accepted) (rw (o .tables) at p)
@@ -144,7 +144,7 @@ symbols-need file = by-verdict (openOf file .verdict)
     t : Tables
     t = tablesAt file
 
-    by-verdict : (v : Verdict) → (let w : WalkAnswer = byVerdict v (Ended (walkIn file t)) Refused in (byVerdict (v orElse roomFor file t (15 * reportOfWalk w .visited)) (Ended (walkIn file t)) Refused ≡ w) × (length (ifAccepted v (rowsIn file t) []) ≡ 15 * reportOfWalk w .visited))
+    by-verdict : (v : Verdict) → (let w : WalkAnswer = byVerdict v (Ended (walkIn file t)) Refused in (byVerdict (v orElse roomFor file t (15 * reportOfWalk file w .visited)) (Ended (walkIn file t)) Refused ≡ w) × (length (ifAccepted v (rowsIn file t) []) ≡ 15 * reportOfWalk file w .visited))
     by-verdict (verdict.Refused x) = (refl, refl)
     by-verdict verdict.Accepted =
         let e = ap (λ (n : ℕ). 15 * n) (walk-visited file t) in

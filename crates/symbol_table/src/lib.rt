@@ -22,8 +22,8 @@ fn symbol_row(file: &[u8], t: Tables, i: SymbolIndex, s: Symbol) -> [u64; 15]
     let e = symbol::entry_in(file, t, i);
     let name = symbol::name_room(file, t, i, e);
     let start = name.start;
-    let y = symbol_lookup::report_symbol(SymbolAnswer::Found(s));
-    let c = csect_lookup::report_csect(csect_lookup::csect_in(file, t, i));
+    let y = symbol_lookup::report_symbol(file, SymbolAnswer::Found(s));
+    let c = csect_lookup::report_csect(file, csect_lookup::csect_in(file, t, i));
     let csect = c.head;
     [
         i.0,
@@ -84,7 +84,7 @@ fn list_symbols(file: &[u8], t: Tables, out: &mut [u64]) -> WalkAnswer
 // A row of 15 numbers for each symbol that the walk visits, in its order.
 pub fn symbol_table(file: &[u8], out: &mut [u64]) -> WalkAnswer
     ensures cause { λ r. ⌜ r ≡ symbolTable (now (file .entry)) (length (now (out .entry))) ⌝ }
-    ensures report { λ r. ⌜ reportOfWalk r ≡ reportOfWalk (symbolTable (now (file .entry)) (length (now (out .entry)))) ⌝ }
+    ensures report { λ r. ⌜ reportOfWalk (now (file .entry)) r ≡ reportOfWalk (now (file .entry)) (symbolTable (now (file .entry)) (length (now (out .entry)))) ⌝ }
     ensures rows { λ _. ⌜ now (out .exit) ≡ symbolsAfter (now (file .entry)) (now (out .entry)) ⌝ }
 {
     let o = header::open(file);

@@ -170,5 +170,5 @@ pub walk-ended : (file : List ℕ) {t : Tables} → OpenTables file t → Ended 
 unfolding walkOf
 walk-ended file o = rw (o .accepted, o .tables)
 
-pub walk-reported : (file : List ℕ) {a : WalkAnswer} → a ≡ walkOf file → (a ≡ walkOf file) × (reportOfWalk a ≡ walkReport file)
-walk-reported file e = (e, ap reportOfWalk e)
+pub walk-reported : (file : List ℕ) {a : WalkAnswer} → a ≡ walkOf file → (a ≡ walkOf file) × (reportOfWalk file a ≡ walkReport file)
+walk-reported file e = (e, ap (reportOfWalk file) e)

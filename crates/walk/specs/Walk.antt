@@ -7,8 +7,9 @@ use lib.ListN.{length}
 use Rattle.format.specs.declared.SymbolIndex.{SymbolIndex}
 use Rattle.refusal.specs.declared.Verdict.{Verdict}
 use Rattle.refusal.specs.declared.Verdict.the-variants as verdict
-use Rattle.refusal.specs.Refusal.{reportHead}
+use Rattle.refusal.specs.Refusal.{acceptedHead}
 use Rattle.refusal.specs.Order.{byVerdict}
+use Rattle.offset.specs.Report.{refusalHead, reportHead}
 use Rattle.header.specs.Open.{openOf}
 use Rattle.symbol.specs.declared.Tables.{Tables}
 use Rattle.symbol.specs.declared.SymbolAnswer.{SymbolAnswer}
@@ -58,11 +59,11 @@ unfoldable pub walkOf : List ℕ → WalkAnswer
 walkOf file = byVerdict (openOf file .verdict) (Ended (walkIn file (tablesAt file))) Refused
 
 -- the answer in document 01's numbers; a walk that stops is an answer, and its cause has a head of its own
-abbrev pub reportOfWalk : WalkAnswer → WalkReport
-reportOfWalk (Ended w) =
-    record { head = reportHead verdict.Accepted; visited = w .visited; end = w .end .0; cause = reportHead (w .cause) }
-reportOfWalk (Refused x) =
-    record { head = reportHead (verdict.Refused x); visited = 0; end = 0; cause = reportHead verdict.Accepted }
+abbrev pub reportOfWalk : List ℕ → WalkAnswer → WalkReport
+reportOfWalk file (Ended w) =
+    record { head = acceptedHead; visited = w .visited; end = w .end .0; cause = reportHead file (w .cause) }
+reportOfWalk file (Refused x) =
+    record { head = refusalHead file x; visited = 0; end = 0; cause = acceptedHead }
 
 abbrev pub walkReport : List ℕ → WalkReport
-walkReport file = reportOfWalk (walkOf file)
+walkReport file = reportOfWalk file (walkOf file)

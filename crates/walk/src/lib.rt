@@ -60,7 +60,7 @@ pub fn walk_tables(file: &[u8], t: Tables) -> WalkEnd
 // The walk over the symbol table; one that stops is an answer and names its cause.
 pub fn walk(file: &[u8]) -> WalkAnswer
     ensures cause { λ r. ⌜ r ≡ walkOf (now (file .entry)) ⌝ }
-    ensures report { λ r. ⌜ reportOfWalk r ≡ walkReport (now (file .entry)) ⌝ }
+    ensures report { λ r. ⌜ reportOfWalk (now (file .entry)) r ≡ walkReport (now (file .entry)) ⌝ }
 {
     let o = header::open(file);
     let v = o.verdict;
@@ -74,24 +74,24 @@ pub fn walk(file: &[u8]) -> WalkAnswer
     }
 }
 
-pub fn report_walk(a: WalkAnswer) -> WalkReport
-    ensures { λ r. ⌜ r ≡ reportOfWalk a ⌝ }
+pub fn report_walk(file: &[u8], a: WalkAnswer) -> WalkReport
+    ensures { λ r. ⌜ r ≡ reportOfWalk (now (file .entry)) a ⌝ }
 {
     match a {
         WalkAnswer::Refused(x) => WalkReport {
-            head: refusal::report_head(Verdict::Refused(x)),
+            head: offset::refusal_head(file, x),
             visited: 0,
             end: 0,
-            cause: refusal::report_head(Verdict::Accepted),
+            cause: refusal::accepted_head(),
         },
         WalkAnswer::Ended(w) => {
             let end = w.end;
             let cause = w.cause;
             WalkReport {
-                head: refusal::report_head(Verdict::Accepted),
+                head: refusal::accepted_head(),
                 visited: w.visited,
                 end: end.0,
-                cause: refusal::report_head(cause),
+                cause: offset::report_head(file, cause),
             }
         }
     }

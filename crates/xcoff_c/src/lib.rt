@@ -10,7 +10,7 @@ ghost use Rattle.loadable.specs.Loadable.{moduleReport};
 ghost use Rattle.lookup.specs.Symbol.{loaderSymbolReport, loaderNameAt};
 ghost use Rattle.import_id.specs.Import.{importAt};
 ghost use lib.ListN.{length};
-ghost use Rattle.sheet.specs.Sheet.{headAnswer, readAnswer, readList, writeCheck, writeSheet, reportOfSheet};
+ghost use Rattle.sheet.specs.Sheet.{headAnswer, readAnswer, readList, writeCheck, writeSheet, sheetHead, reportOfSheet};
 ghost use Rattle.history.specs.Images.{images};
 ghost use Rattle.history.specs.Call.{Call, build, move, answerOf, effect};
 ghost use Rattle.history.specs.Book.{bookImages, bookAfter};
@@ -24,8 +24,7 @@ ghost use Rattle.module_table.specs.Table.{tableCheck, tableAfter};
 ghost use Rattle.loader_symbol_table.specs.Rows.{loaderSymbols};
 ghost use Rattle.relocation_table.specs.Rows.{relocations};
 ghost use Rattle.import_table.specs.Imports.{imports};
-ghost use Rattle.refusal.specs.Part.{reportOfRange};
-ghost use Rattle.refusal.specs.Refusal.{reportHead};
+ghost use Rattle.offset.specs.Report.{reportHead, reportOfRange};
 use csect_lookup::CsectReport;
 use displacement::Addresses;
 use format::SectionNumber;
@@ -36,8 +35,8 @@ use image::CallReport;
 use import_id::ImportString;
 use loadable::ModuleReport;
 use lookup::LoaderSymbolReport;
+use offset::RangeReport;
 use refusal::Head;
-use refusal::RangeReport;
 use replay::ReplayReport;
 use section_lookup::SectionReport;
 use sheet::SheetReport;
@@ -50,7 +49,7 @@ use walk::WalkReport;
 pub extern "C" fn xcoff_open(file: &[u8]) -> OpenReport
     ensures { λ r. ⌜ r ≡ openReport (now (file .entry)) ⌝ }
 {
-    header::report_open(header::open(file))
+    header::report_open(file, header::open(file))
 }
 
 // The record of section `n`, from 1.
@@ -58,15 +57,18 @@ pub extern "C" fn xcoff_open(file: &[u8]) -> OpenReport
 pub extern "C" fn xcoff_section(file: &[u8], n: u64) -> SectionReport
     ensures { λ r. ⌜ r ≡ sectionReport (now (file .entry)) (record { 0 = n }) ⌝ }
 {
-    section_lookup::report_section(section_lookup::section_at(file, SectionNumber(n)))
+    section_lookup::report_section(file, section_lookup::section_at(file, SectionNumber(n)))
 }
 
 // Its name.
 #[no_mangle]
 pub extern "C" fn xcoff_section_name(file: &[u8], n: u64) -> RangeReport
-    ensures { λ r. ⌜ r ≡ reportOfRange (sectionNameAt (now (file .entry)) (record { 0 = n })) ⌝ }
+    ensures { λ r. ⌜ r ≡ reportOfRange (now (file .entry)) (sectionNameAt (now (file .entry)) (record { 0 = n })) ⌝ }
 {
-    refusal::report_range(section_lookup::section_name_range(file, SectionNumber(n)))
+    offset::report_range(
+        file,
+        section_lookup::section_name_range(file, SectionNumber(n)),
+    )
 }
 
 // The symbol table entry with index `i`, from 0.
@@ -74,15 +76,15 @@ pub extern "C" fn xcoff_section_name(file: &[u8], n: u64) -> RangeReport
 pub extern "C" fn xcoff_symbol(file: &[u8], i: u64) -> SymbolReport
     ensures { λ r. ⌜ r ≡ symbolReport (now (file .entry)) (record { 0 = i }) ⌝ }
 {
-    symbol_lookup::report_symbol(symbol_lookup::symbol_at(file, SymbolIndex(i)))
+    symbol_lookup::report_symbol(file, symbol_lookup::symbol_at(file, SymbolIndex(i)))
 }
 
 // Its name.
 #[no_mangle]
 pub extern "C" fn xcoff_symbol_name(file: &[u8], i: u64) -> RangeReport
-    ensures { λ r. ⌜ r ≡ reportOfRange (symbolNameAt (now (file .entry)) (record { 0 = i })) ⌝ }
+    ensures { λ r. ⌜ r ≡ reportOfRange (now (file .entry)) (symbolNameAt (now (file .entry)) (record { 0 = i })) ⌝ }
 {
-    refusal::report_range(symbol_lookup::symbol_name_range(file, SymbolIndex(i)))
+    offset::report_range(file, symbol_lookup::symbol_name_range(file, SymbolIndex(i)))
 }
 
 // Walks the symbol table from its first entry.
@@ -90,7 +92,7 @@ pub extern "C" fn xcoff_symbol_name(file: &[u8], i: u64) -> RangeReport
 pub extern "C" fn xcoff_walk(file: &[u8]) -> WalkReport
     ensures { λ r. ⌜ r ≡ walkReport (now (file .entry)) ⌝ }
 {
-    walk::report_walk(walk::walk(file))
+    walk::report_walk(file, walk::walk(file))
 }
 
 // The csect entry of the symbol with index `i`.
@@ -98,7 +100,7 @@ pub extern "C" fn xcoff_walk(file: &[u8]) -> WalkReport
 pub extern "C" fn xcoff_csect(file: &[u8], i: u64) -> CsectReport
     ensures { λ r. ⌜ r ≡ csectReport (now (file .entry)) (record { 0 = i }) ⌝ }
 {
-    csect_lookup::report_csect(csect_lookup::csect_at(file, SymbolIndex(i)))
+    csect_lookup::report_csect(file, csect_lookup::csect_at(file, SymbolIndex(i)))
 }
 
 // Judges a file as a loadable module.
@@ -106,7 +108,7 @@ pub extern "C" fn xcoff_csect(file: &[u8], i: u64) -> CsectReport
 pub extern "C" fn xcoff_module(file: &[u8]) -> ModuleReport
     ensures { λ r. ⌜ r ≡ moduleReport (now (file .entry)) ⌝ }
 {
-    loadable::report_module(loadable::module_of(file))
+    loadable::report_module(file, loadable::module_of(file))
 }
 
 // The loader symbol with index `i`, from 3.
@@ -114,39 +116,39 @@ pub extern "C" fn xcoff_module(file: &[u8]) -> ModuleReport
 pub extern "C" fn xcoff_loader_symbol(file: &[u8], i: u64) -> LoaderSymbolReport
     ensures { λ r. ⌜ r ≡ loaderSymbolReport (now (file .entry)) i ⌝ }
 {
-    lookup::report_loader_symbol(lookup::loader_symbol(file, i))
+    lookup::report_loader_symbol(file, lookup::loader_symbol(file, i))
 }
 
 // Its name.
 #[no_mangle]
 pub extern "C" fn xcoff_loader_symbol_name(file: &[u8], i: u64) -> RangeReport
-    ensures { λ r. ⌜ r ≡ reportOfRange (loaderNameAt (now (file .entry)) i) ⌝ }
+    ensures { λ r. ⌜ r ≡ reportOfRange (now (file .entry)) (loaderNameAt (now (file .entry)) i) ⌝ }
 {
-    refusal::report_range(lookup::loader_symbol_name_range(file, i))
+    offset::report_range(file, lookup::loader_symbol_name_range(file, i))
 }
 
 // The path of import id `n`, from 0.
 #[no_mangle]
 pub extern "C" fn xcoff_import_path(file: &[u8], n: u64) -> RangeReport
-    ensures { λ r. ⌜ r ≡ reportOfRange (importAt (now (file .entry)) n ImportString.Path) ⌝ }
+    ensures { λ r. ⌜ r ≡ reportOfRange (now (file .entry)) (importAt (now (file .entry)) n ImportString.Path) ⌝ }
 {
-    refusal::report_range(import_id::import_range(file, n, ImportString::Path))
+    offset::report_range(file, import_id::import_range(file, n, ImportString::Path))
 }
 
 // Its base name.
 #[no_mangle]
 pub extern "C" fn xcoff_import_base(file: &[u8], n: u64) -> RangeReport
-    ensures { λ r. ⌜ r ≡ reportOfRange (importAt (now (file .entry)) n ImportString.Base) ⌝ }
+    ensures { λ r. ⌜ r ≡ reportOfRange (now (file .entry)) (importAt (now (file .entry)) n ImportString.Base) ⌝ }
 {
-    refusal::report_range(import_id::import_range(file, n, ImportString::Base))
+    offset::report_range(file, import_id::import_range(file, n, ImportString::Base))
 }
 
 // Its archive member.
 #[no_mangle]
 pub extern "C" fn xcoff_import_member(file: &[u8], n: u64) -> RangeReport
-    ensures { λ r. ⌜ r ≡ reportOfRange (importAt (now (file .entry)) n ImportString.Member) ⌝ }
+    ensures { λ r. ⌜ r ≡ reportOfRange (now (file .entry)) (importAt (now (file .entry)) n ImportString.Member) ⌝ }
 {
-    refusal::report_range(import_id::import_range(file, n, ImportString::Member))
+    offset::report_range(file, import_id::import_range(file, n, ImportString::Member))
 }
 
 // What a plan sheet says of itself: its addresses, and how many places its list needs.
@@ -169,15 +171,10 @@ pub extern "C" fn xcoff_read_sheet(sheet: &[u8], list: &mut [u64]) -> SheetRepor
 // Writes the sheet of a plan into a buffer of exactly its length.
 #[no_mangle]
 pub extern "C" fn xcoff_write_sheet(text: u64, data: u64, list: &[u64], sheet: &mut [u8]) -> Head
-    ensures answer { λ r. ⌜ r ≡ reportHead (writeCheck 2 (length (now (list .entry))) (length (now (sheet .entry)))) ⌝ }
+    ensures answer { λ r. ⌜ r ≡ sheetHead (writeCheck 2 (length (now (list .entry))) (length (now (sheet .entry)))) ⌝ }
     ensures sheet { λ _. ⌜ now (sheet .exit) ≡ writeSheet 2 text «data» (now (list .entry)) (now (sheet .entry)) ⌝ }
 {
-    refusal::report_head(sheet::write_sheet(
-        VirtualAddress(text),
-        VirtualAddress(data),
-        list,
-        sheet,
-    ))
+    sheet::report_head(sheet::write_sheet(VirtualAddress(text), VirtualAddress(data), list, sheet))
 }
 
 // Builds the images of the module for a plan.
@@ -190,14 +187,14 @@ pub extern "C" fn xcoff_build(
     text: &mut [u8],
     data: &mut [u8],
 ) -> CallReport
-    ensures answer { λ r. ⌜ r ≡ reportOfCall (answerOf (relocatableAt (now (file .entry))) (length (now (text .entry))) (length (now («data» .entry))) (build (record { text = at; dat = dataat; list = now (list .entry) }))) ⌝ }
+    ensures answer { λ r. ⌜ r ≡ reportOfCall (now (file .entry)) (answerOf (relocatableAt (now (file .entry))) (length (now (text .entry))) (length (now («data» .entry))) (build (record { text = at; dat = dataat; list = now (list .entry) }))) ⌝ }
     ensures images { λ _. ⌜ images (now (text .exit)) (now («data» .exit)) ≡ effect (relocatableAt (now (file .entry))) (build (record { text = at; dat = dataat; list = now (list .entry) })) (images (now (text .entry)) (now («data» .entry))) ⌝ }
 {
     let addresses = Addresses {
         text: VirtualAddress(at),
         data: VirtualAddress(dataat),
     };
-    image::report_call(image::build_images(file, addresses, list, text, data))
+    image::report_call(file, image::build_images(file, addresses, list, text, data))
 }
 
 // Moves images from one plan to another, taking the buffers as they are.
@@ -213,7 +210,7 @@ pub extern "C" fn xcoff_move(
     text: &mut [u8],
     data: &mut [u8],
 ) -> CallReport
-    ensures answer { λ r. ⌜ r ≡ reportOfCall (answerOf (relocatableAt (now (file .entry))) (length (now (text .entry))) (length (now («data» .entry))) (move (record { text = at; dat = dataat; list = now (list .entry) }) (record { text = toat; dat = todataat; list = now (tolist .entry) }))) ⌝ }
+    ensures answer { λ r. ⌜ r ≡ reportOfCall (now (file .entry)) (answerOf (relocatableAt (now (file .entry))) (length (now (text .entry))) (length (now («data» .entry))) (move (record { text = at; dat = dataat; list = now (list .entry) }) (record { text = toat; dat = todataat; list = now (tolist .entry) }))) ⌝ }
     ensures images { λ _. ⌜ images (now (text .exit)) (now («data» .exit)) ≡ effect (relocatableAt (now (file .entry))) (move (record { text = at; dat = dataat; list = now (list .entry) }) (record { text = toat; dat = todataat; list = now (tolist .entry) })) (images (now (text .entry)) (now («data» .entry))) ⌝ }
 {
     let from = Addresses {
@@ -224,7 +221,10 @@ pub extern "C" fn xcoff_move(
         text: VirtualAddress(toat),
         data: VirtualAddress(todataat),
     };
-    image::report_call(image::move_images(file, from, list, to, tolist, text, data))
+    image::report_call(
+        file,
+        image::move_images(file, from, list, to, tolist, text, data),
+    )
 }
 
 // Runs the calls that `script` encodes on the two buffers: how many, how many of them were accepted, and the last one's answer.
@@ -235,10 +235,10 @@ pub extern "C" fn xcoff_replay(
     text: &mut [u8],
     data: &mut [u8],
 ) -> ReplayReport
-    ensures answer { λ r. ⌜ r ≡ reportOfReplay (replayAnswer (relocatableAt (now (file .entry))) (callsOf (now (script .entry))) (images (now (text .entry)) (now («data» .entry)))) ⌝ }
+    ensures answer { λ r. ⌜ r ≡ reportOfReplay (now (file .entry)) (replayAnswer (relocatableAt (now (file .entry))) (callsOf (now (script .entry))) (images (now (text .entry)) (now («data» .entry)))) ⌝ }
     ensures images { λ _. ⌜ images (now (text .exit)) (now («data» .exit)) ≡ bookImages (relocatableAt (now (file .entry))) (bookAfter (relocatableAt (now (file .entry))) (callsOf (now (script .entry))) (images (now (text .entry)) (now («data» .entry)))) ⌝ }
 {
-    replay::report_replay(replay::replay(file, script, text, data))
+    replay::report_replay(file, replay::replay(file, script, text, data))
 }
 
 // How long the record text of a module's images for a plan is.
@@ -249,13 +249,13 @@ pub extern "C" fn xcoff_records_length(
     dataat: u64,
     list: &[u64],
 ) -> LengthReport
-    ensures { λ r. ⌜ r ≡ reportOfLength (lengthAnswer (relocatableAt (now (file .entry))) (record { text = at; dat = dataat; list = now (list .entry) })) ⌝ }
+    ensures { λ r. ⌜ r ≡ reportOfLength (now (file .entry)) (lengthAnswer (relocatableAt (now (file .entry))) (record { text = at; dat = dataat; list = now (list .entry) })) ⌝ }
 {
     let addresses = Addresses {
         text: VirtualAddress(at),
         data: VirtualAddress(dataat),
     };
-    srecord::report_length(srecord::records_length(file, addresses, list))
+    srecord::report_length(file, srecord::records_length(file, addresses, list))
 }
 
 // Writes two images, as they are, as S-records for a plan.
@@ -269,14 +269,17 @@ pub extern "C" fn xcoff_write_records(
     data: &[u8],
     records: &mut [u8],
 ) -> Head
-    ensures answer { λ r. ⌜ r ≡ reportHead (recordWriteCheck (relocatableAt (now (file .entry))) (record { text = at; dat = dataat; list = now (list .entry) }) (length (now (text .entry))) (length (now («data» .entry))) (length (now (records .entry)))) ⌝ }
+    ensures answer { λ r. ⌜ r ≡ reportHead (now (file .entry)) (recordWriteCheck (relocatableAt (now (file .entry))) (record { text = at; dat = dataat; list = now (list .entry) }) (length (now (text .entry))) (length (now («data» .entry))) (length (now (records .entry)))) ⌝ }
     ensures records { λ _. ⌜ now (records .exit) ≡ recordsWritten (relocatableAt (now (file .entry))) (record { text = at; dat = dataat; list = now (list .entry) }) (now (text .entry)) (now («data» .entry)) (now (records .entry)) ⌝ }
 {
     let addresses = Addresses {
         text: VirtualAddress(at),
         data: VirtualAddress(dataat),
     };
-    refusal::report_head(srecord::write_records(file, addresses, list, text, data, records))
+    offset::report_head(
+        file,
+        srecord::write_records(file, addresses, list, text, data, records),
+    )
 }
 
 // Reads S-records for a plan into two image buffers.
@@ -290,7 +293,7 @@ pub extern "C" fn xcoff_read_records(
     text: &mut [u8],
     data: &mut [u8],
 ) -> Head
-    ensures answer { λ r. ⌜ r ≡ reportHead (recordReadCheck (relocatableAt (now (file .entry))) (record { text = at; dat = dataat; list = now (list .entry) }) (length (now (text .entry))) (length (now («data» .entry))) (now (records .entry))) ⌝ }
+    ensures answer { λ r. ⌜ r ≡ reportHead (now (file .entry)) (recordReadCheck (relocatableAt (now (file .entry))) (record { text = at; dat = dataat; list = now (list .entry) }) (length (now (text .entry))) (length (now («data» .entry))) (now (records .entry))) ⌝ }
     ensures text { λ _. ⌜ now (text .exit) ≡ textAfter (relocatableAt (now (file .entry))) (record { text = at; dat = dataat; list = now (list .entry) }) (now (records .entry)) (now (text .entry)) (now («data» .entry)) ⌝ }
     ensures data { λ _. ⌜ now («data» .exit) ≡ dataAfter (relocatableAt (now (file .entry))) (record { text = at; dat = dataat; list = now (list .entry) }) (now (records .entry)) (now (text .entry)) (now («data» .entry)) ⌝ }
 {
@@ -298,41 +301,44 @@ pub extern "C" fn xcoff_read_records(
         text: VirtualAddress(at),
         data: VirtualAddress(dataat),
     };
-    refusal::report_head(srecord::read_records(file, addresses, list, records, text, data))
+    offset::report_head(
+        file,
+        srecord::read_records(file, addresses, list, records, text, data),
+    )
 }
 
 // Lists the symbols that the walk visits: a row of 15 numbers for each.
 #[no_mangle]
 pub extern "C" fn xcoff_symbol_table(file: &[u8], rows: &mut [u64]) -> WalkReport
-    ensures answer { λ r. ⌜ r ≡ reportOfWalk (symbolTable (now (file .entry)) (length (now (rows .entry)))) ⌝ }
+    ensures answer { λ r. ⌜ r ≡ reportOfWalk (now (file .entry)) (symbolTable (now (file .entry)) (length (now (rows .entry)))) ⌝ }
     ensures rows { λ _. ⌜ now (rows .exit) ≡ symbolsAfter (now (file .entry)) (now (rows .entry)) ⌝ }
 {
-    walk::report_walk(symbol_table::symbol_table(file, rows))
+    walk::report_walk(file, symbol_table::symbol_table(file, rows))
 }
 
 // Lists the loader symbols of a module: a row of 9 numbers for each.
 #[no_mangle]
 pub extern "C" fn xcoff_loader_symbol_table(file: &[u8], rows: &mut [u64]) -> Head
-    ensures answer { λ r. ⌜ r ≡ reportHead (tableCheck loaderSymbols (now (file .entry)) (length (now (rows .entry)))) ⌝ }
+    ensures answer { λ r. ⌜ r ≡ reportHead (now (file .entry)) (tableCheck loaderSymbols (now (file .entry)) (length (now (rows .entry)))) ⌝ }
     ensures rows { λ _. ⌜ now (rows .exit) ≡ tableAfter loaderSymbols (now (file .entry)) (now (rows .entry)) ⌝ }
 {
-    refusal::report_head(loader_symbol_table::loader_symbol_table(file, rows))
+    offset::report_head(file, loader_symbol_table::loader_symbol_table(file, rows))
 }
 
 // Lists its relocation entries: a row of 8 numbers for each.
 #[no_mangle]
 pub extern "C" fn xcoff_relocation_table(file: &[u8], rows: &mut [u64]) -> Head
-    ensures answer { λ r. ⌜ r ≡ reportHead (tableCheck relocations (now (file .entry)) (length (now (rows .entry)))) ⌝ }
+    ensures answer { λ r. ⌜ r ≡ reportHead (now (file .entry)) (tableCheck relocations (now (file .entry)) (length (now (rows .entry)))) ⌝ }
     ensures rows { λ _. ⌜ now (rows .exit) ≡ tableAfter relocations (now (file .entry)) (now (rows .entry)) ⌝ }
 {
-    refusal::report_head(relocation_table::relocation_table(file, rows))
+    offset::report_head(file, relocation_table::relocation_table(file, rows))
 }
 
 // Lists its import ids: a row of 6 numbers for each.
 #[no_mangle]
 pub extern "C" fn xcoff_import_table(file: &[u8], rows: &mut [u64]) -> Head
-    ensures answer { λ r. ⌜ r ≡ reportHead (tableCheck imports (now (file .entry)) (length (now (rows .entry)))) ⌝ }
+    ensures answer { λ r. ⌜ r ≡ reportHead (now (file .entry)) (tableCheck imports (now (file .entry)) (length (now (rows .entry)))) ⌝ }
     ensures rows { λ _. ⌜ now (rows .exit) ≡ tableAfter imports (now (file .entry)) (now (rows .entry)) ⌝ }
 {
-    refusal::report_head(import_table::import_table(file, rows))
+    offset::report_head(file, import_table::import_table(file, rows))
 }

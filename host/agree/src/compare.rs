@@ -1,6 +1,6 @@
 //! One operation, run by both implementations.
 
-use crate::{images, read, records};
+use crate::{images, places, read, records};
 use reference::generate::Op;
 use reference::Refusal;
 use std::fmt::Debug;
@@ -28,8 +28,17 @@ pub struct Agreed {
 
 pub type Agreement = Result<Agreed, Difference>;
 
-/// Compares everything that the operation gives, the buffers afterwards included.
+/// Compares everything that the operation gives, the buffers afterwards included, and looks at what stands where its
+/// refusals point.
 pub fn compare(file: &[u8], op: &Op) -> Agreement {
+    let agreed = run_both(file, op)?;
+    for refusal in &agreed.refusals {
+        places::read(file, refusal)?;
+    }
+    Ok(agreed)
+}
+
+fn run_both(file: &[u8], op: &Op) -> Agreement {
     match op {
         Op::Build { .. } | Op::Move { .. } | Op::Calls { .. } => images::calls(file, op),
         Op::ReadSheet { sheet, list } => images::read_sheet(sheet, list),
@@ -76,16 +85,26 @@ fn short<T: Debug>(value: &T) -> String {
     }
 }
 
-/// Two answers, refusals as number and item. Both results are of one type, made from each implementation's own.
+/// A refusal's number, item and offset.
+pub type Refused = (u64, u64, u64);
+
+pub fn our_refusal(r: xcoff::Refusal) -> Refused {
+    (r.number, r.item, r.offset)
+}
+
+pub fn their_refusal(r: Refusal) -> Refused {
+    (r.number, r.item, r.offset)
+}
+
+/// Two answers, refusals by their three numbers. Both results are of one type, made from each implementation's own.
 pub fn answers<T: PartialEq + Debug>(
     part: &str,
     ours: Result<T, xcoff::Refusal>,
     theirs: Result<T, Refusal>,
 ) -> Result<Option<Refusal>, Difference> {
     let refused = theirs.as_ref().err().copied();
-    let ours = ours.map_err(|r| (r.number, r.item));
-    let theirs = theirs.map_err(|r| (r.number, r.item));
-    same(part, &ours, &theirs)?;
+    let theirs = theirs.map_err(their_refusal);
+    same(part, &ours.map_err(our_refusal), &theirs)?;
     Ok(refused)
 }
 

@@ -7,6 +7,7 @@ mod every;
 mod images;
 mod lent;
 mod lister;
+mod places;
 mod read;
 mod records;
 mod run;

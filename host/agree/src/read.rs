@@ -1,6 +1,8 @@
 //! What is read of a file: headers, symbols, csects, the module and its tables.
 
-use crate::compare::{answers, whole, Agreed, Agreement, Difference};
+use crate::compare::{
+    answers, our_refusal, their_refusal, whole, Agreed, Agreement, Difference, Refused,
+};
 use crate::tables;
 use reference::generate::Op;
 use std::ops::Range;
@@ -187,14 +189,14 @@ pub fn their_csect(c: reference::Csect) -> Csect {
     (c.length, c.alignment, c.kind, c.class)
 }
 
-pub type Walk = (u64, u64, Option<(u64, u64)>);
+pub type Walk = (u64, u64, Option<Refused>);
 
 pub fn our_walk(w: xcoff::Walk) -> Walk {
-    (w.visited, w.end, w.cause.map(|r| (r.number, r.item)))
+    (w.visited, w.end, w.cause.map(our_refusal))
 }
 
 pub fn their_walk(w: reference::Walk) -> Walk {
-    (w.visited, w.end, w.refusal.map(|r| (r.number, r.item)))
+    (w.visited, w.end, w.refusal.map(their_refusal))
 }
 
 fn walk(file: &[u8]) -> Agreement {

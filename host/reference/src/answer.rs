@@ -131,7 +131,10 @@ fn call_text(call: &Call) -> String {
 }
 
 fn refusal_text(refusal: &Refusal) -> String {
-    format!("refused {} {}", refusal.number, refusal.item)
+    format!(
+        "refused {} {} {}",
+        refusal.number, refusal.item, refusal.offset
+    )
 }
 
 fn section_text(section: &Section) -> String {

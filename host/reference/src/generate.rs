@@ -6,6 +6,7 @@ pub mod damage;
 pub mod debug;
 mod edges;
 pub mod make;
+pub mod offsets;
 mod operations;
 pub mod plans;
 pub mod records;
@@ -137,7 +138,7 @@ pub struct Case {
 }
 
 /// The case of a seed. Every eighth is aimed at request 2, another eighth at
-/// requests 1 and 9; what belongs to a request is drawn by itself, so that the
+/// requests 1, 9 and 4; what belongs to a request is drawn by itself, so that the
 /// other cases stay as they are.
 pub fn case(seed: u64) -> Case {
     let rng = &mut Rng::new(seed);
@@ -236,7 +237,8 @@ fn records_file(rng: &mut Rng) -> Drawn {
     }
 }
 
-/// A damage of debugger names or visibilities, or an accepted edge of them.
+/// A damage of debugger names, visibilities or offsets, or an accepted edge of the
+/// first two.
 fn symbols_file(rng: &mut Rng) -> Drawn {
     if rng.chance(40) {
         let mut more = Vec::new();

@@ -33,11 +33,13 @@ pub use symbols::{
     csect, name_fault, symbol, symbol_name, walk, walked, Csect, NameFault, Symbol, Walk,
 };
 
-/// A refusal: its number and its item, 0 where none is named.
+/// A refusal: its number, its item, 0 where none is named, and the file offset of
+/// the header, entry or table that the item names (request 4), 0 for every other.
 #[derive(Clone, Copy, Debug, PartialEq, Eq)]
 pub struct Refusal {
     pub number: u64,
     pub item: u64,
+    pub offset: u64,
 }
 
 pub const SHORT: u64 = 1;
@@ -89,7 +91,16 @@ pub const LOADER_SYMBOL_LIMIT: u64 = 4_096;
 pub const RELOCATION_LIMIT: u64 = 4_096;
 pub const IMAGE_LIMIT: u64 = 16_777_216;
 
-/// Short form for giving a refusal back.
+/// Short form for giving a refusal back whose item names no place in the file.
 pub(crate) fn refuse<T>(number: u64, item: u64) -> Result<T, Refusal> {
-    Err(Refusal { number, item })
+    refuse_at(number, item, 0)
+}
+
+/// One whose item names what starts at `at` in the file.
+pub(crate) fn refuse_at<T>(number: u64, item: u64, at: usize) -> Result<T, Refusal> {
+    Err(Refusal {
+        number,
+        item,
+        offset: at as u64,
+    })
 }

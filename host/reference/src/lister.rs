@@ -1,6 +1,7 @@
-//! Document 01, "Header lister".
+//! Document 01, "Header lister"; a refusal's offset is request 4.
 
 use crate::opening::{kind_word, open};
+use crate::Refusal;
 
 /// What the lister prints for this input.
 pub fn list_headers(input: &[u8]) -> String {
@@ -9,7 +10,7 @@ pub fn list_headers(input: &[u8]) -> String {
     }
     let summary = match open(input) {
         Ok(summary) => summary,
-        Err(refusal) => return format!("refused {} {}\n", refusal.number, refusal.item),
+        Err(refusal) => return refused(&refusal),
     };
     let mut text = format!(
         "XCOFF{} {} {}\n",
@@ -28,4 +29,13 @@ pub fn list_headers(input: &[u8]) -> String {
         );
     }
     text
+}
+
+fn refused(refusal: &Refusal) -> String {
+    let Refusal {
+        number,
+        item,
+        offset,
+    } = refusal;
+    format!("refused {number} {item} {offset}\n")
 }

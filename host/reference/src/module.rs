@@ -1,11 +1,11 @@
 //! Document 01, "The loadable module".
 
 use crate::bytes::{by, number};
-use crate::opening::{self, file_header, open, Section, Summary};
+use crate::opening::{self, file_header, header_at, open, Section, Summary};
 use crate::symbols::short_name;
 use crate::{
-    refuse, Refusal, ADDRESS, IMAGE_LIMIT, INDEX, LIMIT, LOADER, LOADER_SYMBOL_LIMIT, LREL, LSYM,
-    MODULE, OVERLAP, RELOCATION_LIMIT, THREAD,
+    refuse, refuse_at, Refusal, ADDRESS, IMAGE_LIMIT, INDEX, LIMIT, LOADER, LOADER_SYMBOL_LIMIT,
+    LREL, LSYM, MODULE, OVERLAP, RELOCATION_LIMIT, THREAD,
 };
 use std::ops::Range;
 
@@ -184,9 +184,10 @@ pub(crate) fn load(file: &[u8]) -> Result<Loaded, Refusal> {
     })
 }
 
-/// A section with its number.
+/// A section with its number and where its header starts.
 struct Part<'a> {
     number: u64,
+    header: usize,
     section: &'a Section,
 }
 
@@ -215,7 +216,8 @@ fn read_parts(summary: &Summary) -> Result<Parts<'_>, Refusal> {
     // The lowest section first.
     for (i, section) in summary.sections.iter().enumerate() {
         if section.flags == opening::TDATA || section.flags == opening::TBSS {
-            return refuse(THREAD, i as u64 + 1);
+            let n = i as u64 + 1;
+            return refuse_at(THREAD, n, header_at(summary, n));
         }
     }
     Ok(parts)
@@ -302,7 +304,7 @@ fn read_data_image(parts: &Parts) -> Result<u64, Refusal> {
         u128::from(data.size)
     } else {
         if u128::from(bss.paddr) < u128::from(data.paddr) + u128::from(data.size) {
-            return refuse(ADDRESS, parts.bss.number);
+            return refuse_at(ADDRESS, parts.bss.number, parts.bss.header);
         }
         u128::from(bss.paddr - data.paddr) + u128::from(bss.size)
     };
@@ -345,7 +347,11 @@ fn only(summary: &Summary, flags: u64) -> Result<Part<'_>, Refusal> {
                 return refuse(MODULE, 1);
             }
             let number = i as u64 + 1;
-            found = Some(Part { number, section });
+            found = Some(Part {
+                number,
+                header: header_at(summary, number),
+                section,
+            });
         }
     }
     match found {
@@ -409,20 +415,21 @@ fn read_loader_header(file: &[u8], bits: u64, at: usize) -> LoaderHeader {
     }
 }
 
-/// LOADER, and LIMIT 2 and 3.
+/// LOADER, and LIMIT 2 and 3, all at the start of the loader section; without raw
+/// data its pointer is 0.
 fn read_tables(file: &[u8], bits: u64, loader: &Range<usize>) -> Result<Tables, Refusal> {
     if loader.len() < by(bits, 32, 56) {
-        return refuse(LOADER, 0);
+        return refuse_at(LOADER, 0, loader.start);
     }
     let header = read_loader_header(file, bits, loader.start);
     if header.version != 1 && header.version != 2 {
-        return refuse(LOADER, 1);
+        return refuse_at(LOADER, 1, loader.start);
     }
     if header.symbol_count > LOADER_SYMBOL_LIMIT {
-        return refuse(LIMIT, 2);
+        return refuse_at(LIMIT, 2, loader.start);
     }
     if header.relocation_count > RELOCATION_LIMIT {
-        return refuse(LIMIT, 3);
+        return refuse_at(LIMIT, 3, loader.start);
     }
     let symbols_length = 24 * header.symbol_count;
     let symbols = table(loader, header.symbol_offset, symbols_length, 2)?;
@@ -431,7 +438,7 @@ fn read_tables(file: &[u8], bits: u64, loader: &Range<usize>) -> Result<Tables, 
     let ids = table(loader, header.id_offset, header.id_length, 4)?;
     let zeros = file[ids.clone()].iter().filter(|&&byte| byte == 0).count();
     if (zeros as u64) < 3 * header.id_count {
-        return refuse(LOADER, 4);
+        return refuse_at(LOADER, 4, loader.start);
     }
     let strings = table(loader, header.string_offset, header.string_length, 5)?;
     Ok(Tables {
@@ -456,7 +463,7 @@ fn table(
         return Ok(loader.start..loader.start);
     }
     if u128::from(offset) + u128::from(length) > loader.len() as u128 {
-        return refuse(LOADER, item);
+        return refuse_at(LOADER, item, loader.start);
     }
     let start = loader.start + offset as usize;
     Ok(start..start + length as usize)
@@ -496,36 +503,26 @@ fn read_symbol(
         parameter: number(file, at + 20, 4),
         name: 0..0,
     };
-    judge_symbol(&symbol, tables.id_count, parts)?;
+    if !symbol_allowed(&symbol, tables.id_count, parts) {
+        return refuse_at(LSYM, index, at);
+    }
     symbol.name = match symbol_name(file, bits, tables, at) {
         Some(name) => name,
-        None => return refuse(LSYM, index),
+        None => return refuse_at(LSYM, index, at),
     };
     Ok(symbol)
 }
 
-/// LSYM for all but the name.
-fn judge_symbol(symbol: &LoaderSymbol, id_count: u64, parts: &Parts) -> Result<(), Refusal> {
+/// Whether all is good but the name.
+fn symbol_allowed(symbol: &LoaderSymbol, id_count: u64, parts: &Parts) -> bool {
     if symbol.kind & 7 > 3 {
-        return refuse(LSYM, symbol.index);
+        return false;
     }
     if symbol.imported() {
-        if symbol.section != 0 {
-            return refuse(LSYM, symbol.index);
-        }
-        if symbol.file_id != 0 && symbol.file_id >= id_count {
-            return refuse(LSYM, symbol.index);
-        }
-    } else {
-        if symbol.file_id != 0 {
-            return refuse(LSYM, symbol.index);
-        }
-        let numbers = [parts.text.number, parts.data.number, parts.bss.number];
-        if !numbers.contains(&symbol.section) {
-            return refuse(LSYM, symbol.index);
-        }
+        return symbol.section == 0 && (symbol.file_id == 0 || symbol.file_id < id_count);
     }
-    Ok(())
+    let numbers = [parts.text.number, parts.data.number, parts.bss.number];
+    symbol.file_id == 0 && numbers.contains(&symbol.section)
 }
 
 /// The name of the loader symbol at `at`: in its entry, or in the string table.
@@ -566,30 +563,33 @@ fn read_relocations(
 ) -> Result<Vec<Relocation>, Refusal> {
     let mut entries = Vec::new();
     for i in 0..tables.relocation_count {
-        let entry = read_relocation(file, bits, tables, i)?;
-        judge_relocation(&entry, i, tables.symbol_count, parts, bits)?;
-        judge_overlap(&entry, i, &entries)?;
+        let at = tables.relocations.start + by(bits, 12, 16) * i as usize;
+        let entry = read_relocation(file, bits, at);
+        if entry.symbol == 0xFFFF_FFFF || entry.symbol == 0xFFFF_FFFE {
+            return refuse_at(THREAD, i, at);
+        }
+        if !entry_allowed(&entry, tables.symbol_count, parts, bits) {
+            return refuse_at(LREL, i, at);
+        }
+        if overlaps(&entry, &entries) {
+            return refuse_at(OVERLAP, i, at);
+        }
         entries.push(entry);
     }
     Ok(entries)
 }
 
-/// The `i`-th relocation entry; THREAD.
-fn read_relocation(file: &[u8], bits: u64, tables: &Tables, i: u64) -> Result<Relocation, Refusal> {
-    let at = tables.relocations.start + by(bits, 12, 16) * i as usize;
-    let symbol = number(file, at + by(bits, 4, 12), 4);
-    if symbol == 0xFFFF_FFFF || symbol == 0xFFFF_FFFE {
-        return refuse(THREAD, i);
-    }
+/// The relocation entry at `at`.
+fn read_relocation(file: &[u8], bits: u64, at: usize) -> Relocation {
     let kind = number(file, at + 8, 2);
-    Ok(Relocation {
+    Relocation {
         address: number(file, at, by(bits, 4, 8)),
-        symbol,
+        symbol: number(file, at + by(bits, 4, 12), 4),
         kind,
         section: number(file, at + 10, 2),
         subtract: kind & 0xFF == 1,
         width: width_of(kind),
-    })
+    }
 }
 
 /// The high byte's low six bits plus one; its two top bits are ignored.
@@ -597,34 +597,22 @@ pub fn width_of(kind: u64) -> u64 {
     ((kind >> 8) & 0x3F) + 1
 }
 
-/// LREL for entry `i`.
-fn judge_relocation(
-    entry: &Relocation,
-    i: u64,
-    symbol_count: u64,
-    parts: &Parts,
-    bits: u64,
-) -> Result<(), Refusal> {
-    if !type_allowed(entry.kind, bits) {
-        return refuse(LREL, i);
-    }
+/// Whether an entry is good by itself: LREL where it isn't.
+fn entry_allowed(entry: &Relocation, symbol_count: u64, parts: &Parts, bits: u64) -> bool {
     let section = if entry.section == parts.text.number {
         parts.text.section
     } else if entry.section == parts.data.number {
         parts.data.section
     } else {
-        return refuse(LREL, i);
+        return false;
     };
     let start = u128::from(section.paddr);
     let end = start + u128::from(section.size);
     let field = u128::from(entry.address);
-    if field < start || field + u128::from(entry.width / 8) > end {
-        return refuse(LREL, i);
-    }
-    if entry.symbol >= 3 + symbol_count {
-        return refuse(LREL, i);
-    }
-    Ok(())
+    type_allowed(entry.kind, bits)
+        && field >= start
+        && field + u128::from(entry.width / 8) <= end
+        && entry.symbol < 3 + symbol_count
 }
 
 /// Whether a type's low byte and width are among those of 01.
@@ -635,21 +623,16 @@ pub fn type_allowed(kind: u64, bits: u64) -> bool {
         && (width == 32 || (bits == 64 && width == 64))
 }
 
-/// OVERLAP for entry `i`: fields of one section are the same bytes or share none.
-fn judge_overlap(entry: &Relocation, i: u64, earlier: &[Relocation]) -> Result<(), Refusal> {
-    for other in earlier {
-        if other.section != entry.section {
-            continue;
-        }
+/// Whether the field meets an earlier one: fields of one section are the same
+/// bytes or share none.
+fn overlaps(entry: &Relocation, earlier: &[Relocation]) -> bool {
+    earlier.iter().any(|other| {
         let same = other.address == entry.address && other.width == entry.width;
         let apart = if other.address <= entry.address {
             entry.address - other.address >= other.width / 8
         } else {
             other.address - entry.address >= entry.width / 8
         };
-        if !same && !apart {
-            return refuse(OVERLAP, i);
-        }
-    }
-    Ok(())
+        other.section == entry.section && !same && !apart
+    })
 }

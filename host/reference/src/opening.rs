@@ -2,8 +2,8 @@
 
 use crate::bytes::{by, number, top};
 use crate::{
-    refuse, Refusal, ADDRESS, BOUNDS, FILE_LIMIT, INDEX, KIND, LIMIT, MAGIC, SECTION_LIMIT, SHORT,
-    STRINGS,
+    refuse, refuse_at, Refusal, ADDRESS, BOUNDS, FILE_LIMIT, INDEX, KIND, LIMIT, MAGIC,
+    SECTION_LIMIT, SHORT, STRINGS,
 };
 use std::ops::Range;
 
@@ -88,6 +88,12 @@ pub(crate) fn section_header(bits: u64) -> usize {
     by(bits, 40, 72)
 }
 
+/// Where the header of section `n` starts.
+pub(crate) fn header_at(summary: &Summary, n: u64) -> usize {
+    let headers = file_header(summary.bits) + summary.opthdr as usize;
+    headers + (n as usize - 1) * section_header(summary.bits)
+}
+
 /// Opens a file.
 pub fn open(file: &[u8]) -> Result<Summary, Refusal> {
     let bits = read_format(file)?;
@@ -155,46 +161,51 @@ fn read_section(file: &[u8], bits: u64, n: u64, at: usize) -> Result<Section, Re
     };
     // Deleted: accepted, not examined, and no raw data.
     if whole_flags != DELETED {
-        section.flags = read_kind(n, whole_flags)?;
-        section.raw = read_raw(file, n, &section)?;
-        judge_address(bits, n, &section)?;
+        section.flags = read_kind(n, at, whole_flags)?;
+        section.raw = read_raw(file, n, at, &section)?;
+        judge_address(bits, n, at, &section)?;
     }
     Ok(section)
 }
 
 /// The kind's flag: KIND.
-fn read_kind(n: u64, whole_flags: u64) -> Result<u64, Refusal> {
+fn read_kind(n: u64, at: usize, whole_flags: u64) -> Result<u64, Refusal> {
     let flags = whole_flags & 0xFFFF;
     let high = whole_flags >> 16;
     let known = KINDS.iter().any(|&(flag, _)| flag == flags);
     if !known || (high != 0 && flags != DWARF) {
-        return refuse(KIND, n);
+        return refuse_at(KIND, n, at);
     }
     Ok(flags)
 }
 
 /// Where the raw data of section `n` lies: BOUNDS.
-fn read_raw(file: &[u8], n: u64, section: &Section) -> Result<Option<Range<usize>>, Refusal> {
+fn read_raw(
+    file: &[u8],
+    n: u64,
+    at: usize,
+    section: &Section,
+) -> Result<Option<Range<usize>>, Refusal> {
     let (scnptr, size) = (section.scnptr, section.size);
     if scnptr == 0 || [BSS, TBSS, OVRFLO].contains(&section.flags) {
         return Ok(None);
     }
     if u128::from(scnptr) + u128::from(size) > file.len() as u128 {
-        return refuse(BOUNDS, n);
+        return refuse_at(BOUNDS, n, at);
     }
     Ok(Some(scnptr as usize..scnptr as usize + size as usize))
 }
 
 /// ADDRESS for section `n`.
-fn judge_address(bits: u64, n: u64, section: &Section) -> Result<(), Refusal> {
+fn judge_address(bits: u64, n: u64, at: usize, section: &Section) -> Result<(), Refusal> {
     if ![TEXT, DATA, BSS].contains(&section.flags) {
         return Ok(());
     }
     if section.vaddr != section.paddr {
-        return refuse(ADDRESS, n);
+        return refuse_at(ADDRESS, n, at);
     }
     if u128::from(section.paddr) + u128::from(section.size) > top(bits) {
-        return refuse(ADDRESS, n);
+        return refuse_at(ADDRESS, n, at);
     }
     Ok(())
 }
@@ -221,7 +232,7 @@ fn read_strings(file: &[u8], symptr: u64, symbols: u64) -> Result<Range<usize>, 
         return Ok(at..at);
     }
     if length < 4 {
-        return refuse(STRINGS, 0);
+        return refuse_at(STRINGS, 0, at);
     }
     if length > left as u64 {
         return refuse(BOUNDS, 0);
@@ -245,8 +256,6 @@ pub fn section_name(file: &[u8], n: u64) -> Result<Range<usize>, Refusal> {
     if n < 1 || n > summary.sections.len() as u64 {
         return refuse(INDEX, n);
     }
-    let bits = summary.bits;
-    let headers = file_header(bits) + summary.opthdr as usize;
-    let at = headers + (n as usize - 1) * section_header(bits);
+    let at = header_at(&summary, n);
     Ok(at..at + 8)
 }

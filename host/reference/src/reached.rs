@@ -135,6 +135,7 @@ pub const CLASSES: &[Class] = &[
     class(8, "loader symbol", Both, &[Lookup]),
     class(8, "import id", Both, &[Lookup]),
     class(9, "index", Both, &[Symbol, Csect]),
+    class(9, "index 0 at offset 0", Both, &[Symbol, Csect]),
     class(10, "index: string table", Both, &[Symbol, Csect]),
     class(10, "index: no debug section", Both, &[Symbol, Csect]),
     class(10, "index: two of them", Both, &[Symbol, Csect]),
@@ -151,6 +152,8 @@ pub const CLASSES: &[Class] = &[
     class(14, "section", Both, LOADING),
     class(14, "entry", Both, LOADING),
     class(15, "0", Both, LOADING),
+    class(15, "0 without raw data", Both, LOADING),
+    class(15, "0 at the file's end", Both, LOADING),
     class(15, "1", Both, LOADING),
     class(15, "2", Both, LOADING),
     class(15, "3", Both, LOADING),
@@ -228,9 +231,11 @@ pub fn item_of(file: &[u8], op: &Op, refusal: &Refusal) -> &'static str {
         4 | 5 => "section",
         6 => address(file, item),
         8 => asked(op),
+        9 if item == 0 && refusal.offset == 0 => "index 0 at offset 0",
         10 => name(file, item),
         12 => csect_item(file, item),
         9 | 11 | 30 => "index",
+        15 if item == 0 => loader_0(file),
         13 | 15 => ["0", "1", "2", "3", "4", "5"]
             .get(item as usize)
             .copied()
@@ -317,6 +322,18 @@ fn asked(op: &Op) -> &'static str {
         Op::LoaderSymbol(_) | Op::LoaderSymbolName(_) => "loader symbol",
         Op::ImportPath(_) | Op::ImportBase(_) | Op::ImportMember(_) => "import id",
         _ => "?",
+    }
+}
+
+/// LOADER 0, whose offset is 0 without raw data, and at most the file's length.
+fn loader_0(file: &[u8]) -> &'static str {
+    let sections = open(file).map_or(Vec::new(), |summary| summary.sections);
+    let loader = sections.iter().find(|s| s.flags == crate::opening::LOADER);
+    match loader.map(|section| section.scnptr as usize) {
+        Some(0) => "0 without raw data",
+        Some(at) if at == file.len() => "0 at the file's end",
+        Some(_) => "0",
+        None => "?",
     }
 }
 

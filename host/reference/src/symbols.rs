@@ -3,7 +3,7 @@
 
 use crate::bytes::{by, number};
 use crate::opening::{open, Section, Summary, DEBUG};
-use crate::{refuse, Refusal, AUX, CSECT, INDEX, NAME, SECTION, VISIBILITY};
+use crate::{refuse, refuse_at, Refusal, AUX, CSECT, INDEX, NAME, SECTION, VISIBILITY};
 use std::ops::Range;
 
 #[derive(Clone, Debug, PartialEq, Eq)]
@@ -76,21 +76,21 @@ fn read_entry(file: &[u8], summary: &Summary, index: u64) -> Result<Symbol, Refu
     let at = place(summary, index);
     let auxiliaries = number(file, at + 17, 1);
     if index + 1 + auxiliaries > summary.symbols {
-        return refuse(AUX, index);
+        return refuse_at(AUX, index, at);
     }
     let section = i64::from(number(file, at + 12, 2) as u16 as i16);
     if section < -2 || section > summary.sections.len() as i64 {
-        return refuse(SECTION, index);
+        return refuse_at(SECTION, index, at);
     }
     let name = match read_name(file, summary, at) {
         Ok(name) => name,
-        Err(_) => return refuse(NAME, index),
+        Err(_) => return refuse_at(NAME, index, at),
     };
     let kind = number(file, at + 14, 2);
     let class = number(file, at + 16, 1);
     let visibility = read_visibility(file, summary, class, kind);
     if visibility > Some(4) {
-        return refuse(VISIBILITY, index);
+        return refuse_at(VISIBILITY, index, at);
     }
     Ok(Symbol {
         index,
@@ -264,12 +264,13 @@ pub fn walked(file: &[u8]) -> Result<Vec<Symbol>, Refusal> {
 pub fn csect(file: &[u8], index: u64) -> Result<Csect, Refusal> {
     let summary = open(file)?;
     let entry = read_entry(file, &summary, index)?;
+    let at = place(&summary, index);
     let found = match own_csect(file, &summary, &entry) {
         Some(found) => found,
-        None => return refuse(CSECT, index),
+        None => return refuse_at(CSECT, index, at),
     };
     if found.kind == LD && !has_container(file, &summary, &found, index) {
-        return refuse(CSECT, index);
+        return refuse_at(CSECT, index, at);
     }
     Ok(found)
 }

@@ -51,14 +51,16 @@ fn p9_flags() {
         open(&one_section(0x60)),
         Err(Refusal {
             number: KIND,
-            item: 1
+            item: 1,
+            offset: 20
         })
     );
     assert_eq!(
         open(&one_section(0x0001_0020)),
         Err(Refusal {
             number: KIND,
-            item: 1
+            item: 1,
+            offset: 20
         })
     );
     let summary = open(&one_section(0x0002_0010)).unwrap();
@@ -81,14 +83,16 @@ fn p10_names() {
         symbol_name(&file, 2),
         Err(Refusal {
             number: NAME,
-            item: 2
+            item: 2,
+            offset: 20 + 2 * 18
         })
     );
     assert_eq!(
         symbol_name(&file, 3),
         Err(Refusal {
             number: NAME,
-            item: 3
+            item: 3,
+            offset: 20 + 3 * 18
         })
     );
     let found = walk(&file).unwrap();
@@ -149,7 +153,15 @@ fn with_fields(addresses: &[u64]) -> Vec<u8> {
 
 #[test]
 fn fields_in_a_section() {
-    let refusal = |number, item| Err(Refusal { number, item });
+    // The entries follow the loader section's header.
+    let refusal = |number, item| {
+        let offset = 20 + 72 + 4 * 40 + 0x100 + 32 + 12 * item;
+        Err(Refusal {
+            number,
+            item,
+            offset,
+        })
+    };
     assert!(module(&with_fields(&[0x1000_00FC])).is_ok());
     assert_eq!(module(&with_fields(&[0x1000_00FD])), refusal(LREL, 0));
     assert!(module(&with_fields(&[0x1000_0010, 0x1000_0014])).is_ok());
@@ -172,7 +184,10 @@ fn the_lister() {
     put(&mut file, 40, 4, 60);
     put(&mut file, 56, 4, 0x20);
     assert_eq!(list_headers(&file), "XCOFF32 1 0\n1 text 10000000 4\n");
-    assert_eq!(list_headers(&file[..59]), "refused 1 0\n");
+    assert_eq!(list_headers(&file[..59]), "refused 1 0 0\n");
+    put(&mut file, 56, 4, 0x60);
+    assert_eq!(list_headers(&file), "refused 4 1 20\n");
+    put(&mut file, 56, 4, 0x20);
     file.resize(65_536, 0);
     assert_eq!(list_headers(&file), "XCOFF32 1 0\n1 text 10000000 4\n");
     file.push(0);
@@ -199,8 +214,15 @@ fn formats() -> [Wish; 2] {
 }
 
 fn limit<T>(item: u64) -> Result<T, Refusal> {
-    let number = LIMIT;
-    Err(Refusal { number, item })
+    limit_at(item, 0)
+}
+
+fn limit_at<T>(item: u64, offset: usize) -> Result<T, Refusal> {
+    Err(Refusal {
+        number: LIMIT,
+        item,
+        offset: offset as u64,
+    })
 }
 
 #[test]
@@ -237,7 +259,8 @@ fn loader_symbol_limit() {
         };
         let file = made(with(4_096)).bytes;
         assert_eq!(module(&file).unwrap().loader_symbols, 4_096);
-        assert_eq!(module(&made(with(4_097)).bytes), limit(2));
+        let over = made(with(4_097));
+        assert_eq!(module(&over.bytes), limit_at(2, over.loader_at));
     }
 }
 
@@ -250,7 +273,8 @@ fn relocation_limit() {
         };
         let file = made(with(4_096)).bytes;
         assert_eq!(module(&file).unwrap().relocations, 4_096);
-        assert_eq!(module(&made(with(4_097)).bytes), limit(3));
+        let over = made(with(4_097));
+        assert_eq!(module(&over.bytes), limit_at(3, over.loader_at));
     }
 }
 

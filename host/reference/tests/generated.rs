@@ -57,7 +57,8 @@ fn check_symbols(made: &Made) {
                 read,
                 Err(Refusal {
                     number: CSECT,
-                    item: symbol.index
+                    item: symbol.index,
+                    offset: made.symbol_at(symbol.index) as u64
                 })
             ),
         }

@@ -234,6 +234,7 @@ fn ranges_that_touch_and_share() {
     let clash = Err(Refusal {
         number: CLASH,
         item: 0,
+        offset: 0,
     });
     let length = Ok(4 * 15 + 2 * (36 + 3));
     for (text, data, expected) in [

@@ -5,32 +5,32 @@ use Rattle.csect_lookup.proofs.report_csect.Tie as tie
 enum-known-a : tie.Need-enum-known-a
 enum-known-a c = search needs
 
-report-head-requires : tie.Need-report-head-requires
-report-head-requires c κs = search needs
+refusal-head-requires : tie.Need-refusal-head-requires
+refusal-head-requires c κs = search needs
 
 enum-known-a-2 : tie.Need-enum-known-a-2
 enum-known-a-2 c = search needs
 
-report-head-requires-2 : tie.Need-report-head-requires-2
-report-head-requires-2 c κs = search needs
+accepted-head-requires : tie.Need-accepted-head-requires
+accepted-head-requires c κs = search needs
 
 type-number-requires : tie.Need-type-number-requires
 type-number-requires c κs = search needs
 
 returns : tie.Need-returns
-returns c = rw (c .before .before .a .given .1, c .report-head .ensures)
+returns c = rw (c .before .before .a .given .1, c .refusal-head .ensures)
 
 returns-2 : tie.Need-returns-2
-returns-2 c = rw (c .before .before .before .a2 .given .1, c .before .report-head2 .ensures, c .type-number .ensures)
+returns-2 c = rw (c .before .before .before .a2 .given .1, c .before .accepted-head .ensures, c .type-number .ensures)
 
 pub report-csect-spec : {M : Type 1} → statement M
 report-csect-spec =
     tie.close
     (tie.spec
     enum-known-a
-    report-head-requires
+    refusal-head-requires
     enum-known-a-2
-    report-head-requires-2
+    accepted-head-requires
     type-number-requires
     returns
     returns-2)

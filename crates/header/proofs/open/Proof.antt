@@ -11,13 +11,13 @@ refuse-requires : tie.Need-refuse-requires
 refuse-requires c κs = search needs
 
 returns : tie.Need-returns
-returns c = let f = c .before .before .before .args .file .now in reported reportOfOpened (c .refuse .ensures ∙ open-large f (c .before .if1 .taken))
+returns c = let f = c .before .before .before .args .file .now in reported (reportOfOpened _) (c .refuse .ensures ∙ open-large f (c .before .if1 .taken))
 
 refuse-requires-2 : tie.Need-refuse-requires-2
 refuse-requires-2 c κs = search needs
 
 returns-2 : tie.Need-returns-2
-returns-2 c = let f = c .before .before .before .before .args .file .now in reported reportOfOpened (c .refuse2 .ensures ∙ open-short f (c .before .before .if1 .left) (c .before .if2 .taken))
+returns-2 c = let f = c .before .before .before .before .args .file .now in reported (reportOfOpened _) (c .refuse2 .ensures ∙ open-short f (c .before .before .if1 .left) (c .before .if2 .taken))
 
 two-requires : tie.Need-two-requires
 two-requires c κs = search needs
@@ -41,10 +41,10 @@ open-as-requires : tie.Need-open-as-requires
 open-as-requires c κs = search needs
 
 returns-3 : tie.Need-returns-3
-returns-3 c = let f = c .before .before .before .before .before .before .before .before .before .args .file .now in reported reportOfOpened (c .refuse3 .ensures ∙ open-unknown f (c .before .before .before .before .before .before .before .if1 .left) (c .before .before .before .before .before .before .if2 .left) (found (rw (c .before .before .before .before .read-field .ensures .0, c .before .before .before .before .before .two .ensures) at (c .before .before .before .format-of .ensures)) (c .before .enum-told .given .1)))
+returns-3 c = let f = c .before .before .before .before .before .before .before .before .before .args .file .now in reported (reportOfOpened _) (c .refuse3 .ensures ∙ open-unknown f (c .before .before .before .before .before .before .before .if1 .left) (c .before .before .before .before .before .before .if2 .left) (found (rw (c .before .before .before .before .read-field .ensures .0, c .before .before .before .before .before .two .ensures) at (c .before .before .before .format-of .ensures)) (c .before .enum-told .given .1)))
 
 returns-4 : tie.Need-returns-4
-returns-4 c = let f = c .before .before .before .before .before .before .before .before .before .before .args .file .now in reported reportOfOpened (c .open-as .ensures ∙ open-known f (c .before .before .before .before .before .before .before .before .if1 .left) (c .before .before .before .before .before .before .before .if2 .left) _ (found (rw (c .before .before .before .before .before .read-field .ensures .0, c .before .before .before .before .before .before .two .ensures) at (c .before .before .before .before .format-of .ensures)) (c .before .before .a .given .1)))
+returns-4 c = let f = c .before .before .before .before .before .before .before .before .before .before .args .file .now in reported (reportOfOpened _) (c .open-as .ensures ∙ open-known f (c .before .before .before .before .before .before .before .before .if1 .left) (c .before .before .before .before .before .before .before .if2 .left) _ (found (rw (c .before .before .before .before .before .read-field .ensures .0, c .before .before .before .before .before .before .two .ensures) at (c .before .before .before .before .format-of .ensures)) (c .before .before .a .given .1)))
 
 pub open-spec : {M : Type 1} → statement M
 open-spec =

@@ -4,7 +4,7 @@ use Rattle.refusal.proofs.Order.{told, told-accepted}
 use Rattle.refusal.specs.declared.Verdict.{Verdict}
 use Rattle.header.specs.declared.Opened.{Opened}
 use Rattle.header.specs.Open.{blankSummary}
-use Rattle.header.proofs.Accepted.{header-in, header-complete}
+use Rattle.file_header.proofs.Checked.{header-in, header-complete}
 use Rattle.header.proofs.Answer.{as-header, as-sections, as-symbols, scanned, scanned-sections}
 use Rattle.header.proofs.open_as.Statement.{statement}
 use Rattle.header.proofs.open_as.Tie as tie

@@ -5,8 +5,8 @@ use Rattle.loadable.proofs.Accepted.{loadable-valid}
 use Rattle.import_id.proofs.Strings.{strings-few, strings-there}
 use Rattle.import_id.specs.Import.{idCheck, importAt, importIn}
 use Rattle.word.proofs.Test.{found}
-use Rattle.refusal.specs.Part.{reportOfRange}
 use Rattle.refusal.proofs.Report.{reported}
+use Rattle.offset.specs.Report.{reportOfRange}
 use Rattle.import_id.proofs.import_range.Statement.{statement}
 use Rattle.import_id.proofs.import_range.Tie as tie
 
@@ -33,15 +33,15 @@ string-of-requires c κs = let h = loadable-valid (c .before .before .before .be
 
 returns : tie.Need-returns
 unfolding importAt importIn idCheck
-returns c = reported reportOfRange (rw (found (c .before .before .before .before .before .before .before .before .before .module-of .ensures .0) (c .before .before .before .before .before .before .before .a2 .given .1), lt-ltb _ _ (c .before .before .before .if1 .taken), c .string-of .ensures, c .before .place-of .ensures .0))
+returns c = reported (reportOfRange _) (rw (found (c .before .before .before .before .before .before .before .before .before .module-of .ensures .0) (c .before .before .before .before .before .before .before .a2 .given .1), lt-ltb _ _ (c .before .before .before .if1 .taken), c .string-of .ensures, c .before .place-of .ensures .0))
 
 returns-2 : tie.Need-returns-2
 unfolding importAt importIn
-returns-2 c = reported reportOfRange (rw (found (c .before .before .before .module-of .ensures .0) (c .before .a .given .1)))
+returns-2 c = reported (reportOfRange _) (rw (found (c .before .before .before .module-of .ensures .0) (c .before .a .given .1)))
 
 returns-3 : tie.Need-returns-3
 unfolding importAt importIn idCheck
-returns-3 c = reported reportOfRange (rw (found (c .before .before .before .before .before .before .module-of .ensures .0) (c .before .before .before .before .a2 .given .1), le-ltb _ _ (c .if1 .left)))
+returns-3 c = reported (reportOfRange _) (rw (found (c .before .before .before .before .before .before .module-of .ensures .0) (c .before .before .before .before .a2 .given .1), le-ltb _ _ (c .if1 .left)))
 
 pub import-range-spec : {M : Type 1} → statement M
 import-range-spec =

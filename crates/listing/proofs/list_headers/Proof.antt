@@ -12,6 +12,9 @@ open-requires c κs = search needs
 enum-known-v : tie.Need-enum-known-v
 enum-known-v c = search needs
 
+refusal-head-requires : tie.Need-refusal-head-requires
+refusal-head-requires c κs = search needs
+
 put-refusal-line-requires : tie.Need-put-refusal-line-requires
 put-refusal-line-requires c κs = search needs
 
@@ -31,7 +34,9 @@ returns : tie.Need-returns
 unfolding listing
 returns c = let n = c .count-in .ensures in
     let e = c .before .before .before .put-refusal-line .ensures in
-    rw (← c .before .before .before .before .before .before .before .before .before .«open» .ensures .0, c .before .before .before .before .before .before .v .given .1) (n .0 ∙ e .0, (e .1 .0, n .1))
+    let h = c .before .before .before .before in
+    let m = h .before .before .before in
+    rw (← m .before .before .before .«open» .ensures .0, m .v .given .1, ← h .refusal-head .ensures) (n .0 ∙ e .0, (e .1 .0, n .1))
 
 returns-2 : tie.Need-returns-2
 unfolding listing
@@ -45,6 +50,7 @@ list-headers-spec =
     (tie.spec
     open-requires
     enum-known-v
+    refusal-head-requires
     put-refusal-line-requires
     count-in-requires
     enum-told

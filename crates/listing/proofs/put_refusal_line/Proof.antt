@@ -16,17 +16,11 @@ put-bytes-requires c κs = search needs
 put-byte-requires : tie.Need-put-byte-requires
 put-byte-requires c κs = search needs
 
-number-requires : tie.Need-number-requires
-number-requires c κs = search needs
-
 put-decimal-requires : tie.Need-put-decimal-requires
 put-decimal-requires c κs = search needs
 
 put-byte-requires-2 : tie.Need-put-byte-requires-2
 put-byte-requires-2 c κs = search needs
-
-item-requires : tie.Need-item-requires
-item-requires c κs = search needs
 
 put-decimal-requires-2 : tie.Need-put-decimal-requires-2
 put-decimal-requires-2 c κs = search needs
@@ -34,23 +28,32 @@ put-decimal-requires-2 c κs = search needs
 put-byte-requires-3 : tie.Need-put-byte-requires-3
 put-byte-requires-3 c κs = search needs
 
+put-decimal-requires-3 : tie.Need-put-decimal-requires-3
+put-decimal-requires-3 c κs = search needs
+
+put-byte-requires-4 : tie.Need-put-byte-requires-4
+put-byte-requires-4 c κs = search needs
+
 returns : tie.Need-returns
 unfolding refusalLine
 returns c =
-    let item = c .before .before in
-    let blank2 = item .before .before .before in
+    let offset = c .before .before in
+    let blank3 = offset .before .before in
+    let item = blank3 .before .before in
+    let blank2 = item .before .before in
     let number = blank2 .before .before in
-    let blank1 = number .before .before .before in
+    let blank1 = number .before .before in
     let word = blank1 .before .before in
     let a = word .before .before .before .args in
-    let line : Wrote (a .out .now) 0 (refusalLine (a .x)) (c .put-byte3 .last .0) (c .put-byte3 .result) =
-    rw (← number .before .number .ensures, ← item .before .item .ensures)
+    let line : Wrote (a .out .now) 0 (refusalLine (a .h)) (c .put-byte4 .last .0) (c .put-byte4 .result) =
     (wrote refusedWord (word .put-bytes .ensures .0) (word .put-bytes .ensures .1)
     then wrote blank (blank1 .put-byte .ensures .0) (blank1 .put-byte .ensures .1)
-    then wrote (decimal (number .before .number .result)) (number .put-decimal .ensures .0) (number .put-decimal .ensures .1 .0)
+    then wrote (decimal (a .h .number)) (number .put-decimal .ensures .0) (number .put-decimal .ensures .1 .0)
     then wrote blank (blank2 .put-byte2 .ensures .0) (blank2 .put-byte2 .ensures .1)
-    then wrote (decimal (item .before .item .result)) (item .put-decimal2 .ensures .0) (item .put-decimal2 .ensures .1 .0)
-    then wrote newline (c .put-byte3 .ensures .0) (c .put-byte3 .ensures .1)) in
+    then wrote (decimal (a .h .item)) (item .put-decimal2 .ensures .0) (item .put-decimal2 .ensures .1 .0)
+    then wrote blank (blank3 .put-byte3 .ensures .0) (blank3 .put-byte3 .ensures .1)
+    then wrote (decimal (a .h .offset)) (offset .put-decimal3 .ensures .0) (offset .put-decimal3 .ensures .1 .0)
+    then wrote newline (c .put-byte4 .ensures .0) (c .put-byte4 .ensures .1)) in
     (omega arith, (line .text, search needs))
 
 pub put-refusal-line-spec : {M : Type 1} → statement M
@@ -60,10 +63,10 @@ put-refusal-line-spec =
     slice-aggregate-put-bytes
     put-bytes-requires
     put-byte-requires
-    number-requires
     put-decimal-requires
     put-byte-requires-2
-    item-requires
     put-decimal-requires-2
     put-byte-requires-3
+    put-decimal-requires-3
+    put-byte-requires-4
     returns)

@@ -24,7 +24,7 @@ returns c = let h = found (c .before .before .before .find-module .ensures) (c .
 
 returns-2 : tie.Need-returns-2
 unfolding loadableAt
-returns-2 c = let h = found (c .before .before .before .before .find-module .ensures) (c .before .before .a2 .given .1) in (rw h (c .load .ensures), rw h (ap reportOfModule (c .load .ensures)))
+returns-2 c = let h = found (c .before .before .before .before .find-module .ensures) (c .before .before .a2 .given .1) in (rw h (c .load .ensures), rw h (ap (reportOfModule _) (c .load .ensures)))
 
 pub module-of-spec : {M : Type 1} → statement M
 module-of-spec =

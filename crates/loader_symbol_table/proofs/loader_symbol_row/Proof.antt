@@ -24,14 +24,17 @@ name-range-requires c κs =
     let h = symbol-inside (c .before .before .before .before .before .before .before .args .file .now) (c .before .before .before .before .before .before .before .args .l) (c .before .before .before .before .before .before .before .args .k) (c .before .before .before .before .before .before .before .pre .0) (c .before .before .before .before .before .before .before .pre .1) in
     (h .1, h .0)
 
-report-range-requires : tie.Need-report-range-requires
-report-range-requires c κs = search needs
+range-found-requires : tie.Need-range-found-requires
+range-found-requires c κs = search needs
 
 returns : tie.Need-returns
 unfolding loaderSymbolRow
-returns c = let a = c .before .before .before .before .before .before .before .before .before .args in
-    let e = c .before .before .read-entry .ensures in
-    rw (c .report-range .ensures, symbol-found (a .file .now) (a .l) (a .k) (c .before .before .before .before .before .before .before .before .before .pre .0) (c .before .before .before .before .before .before .before .before .before .pre .1) e, name-found (a .file .now) (a .l) (a .k) (c .before .before .before .before .before .before .before .before .before .pre .0) (c .before .before .before .before .before .before .before .before .before .pre .1) e (c .before .name-range .ensures)) refl
+returns c =
+    let n = c .before in
+    let start = n .before .before .before .before .before .before .before .before .before in
+    let a = start .args in
+    let e = n .before .before .read-entry .ensures in
+    rw (n .range-found .ensures, symbol-found (a .file .now) (a .l) (a .k) (start .pre .0) (start .pre .1) e, name-found (a .file .now) (a .l) (a .k) (start .pre .0) (start .pre .1) e (n .before .name-range .ensures)) refl
 
 pub loader-symbol-row-spec : {M : Type 1} → statement M
 loader-symbol-row-spec =
@@ -42,5 +45,5 @@ loader-symbol-row-spec =
     add-base
     read-entry-requires
     name-range-requires
-    report-range-requires
+    range-found-requires
     returns)

@@ -4,8 +4,8 @@ use Rattle.loadable.proofs.Accepted.{loadable-valid}
 use Rattle.lookup.proofs.Symbols.{entry-in-file}
 use Rattle.lookup.specs.Symbol.{entryOf, loaderNameAt, nameOf, symbolNameIn}
 use Rattle.word.proofs.Test.{found}
-use Rattle.refusal.specs.Part.{reportOfRange}
 use Rattle.refusal.proofs.Report.{reported}
+use Rattle.offset.specs.Report.{reportOfRange}
 use Rattle.lookup.proofs.loader_symbol_name_range.Statement.{statement}
 use Rattle.lookup.proofs.loader_symbol_name_range.Tie as tie
 
@@ -38,15 +38,15 @@ name-range-requires c κs = let h = loadable-valid (c .before .before .before .b
 
 returns : tie.Need-returns
 unfolding loaderNameAt symbolNameIn
-returns c = reported reportOfRange (rw (found (c .before .before .before .module-of .ensures .0) (c .before .a .given .1)))
+returns c = reported (reportOfRange _) (rw (found (c .before .before .before .module-of .ensures .0) (c .before .a .given .1)))
 
 returns-2 : tie.Need-returns-2
 unfolding loaderNameAt symbolNameIn
-returns-2 c = reported reportOfRange (rw (found (c .before .before .before .before .before .before .before .before .module-of .ensures .0) (c .before .before .before .before .before .before .a2 .given .1), found (c .before .before .before .check-index .ensures) (c .before .v .given .1)))
+returns-2 c = reported (reportOfRange _) (rw (found (c .before .before .before .before .before .before .before .before .module-of .ensures .0) (c .before .before .before .before .before .before .a2 .given .1), found (c .before .before .before .check-index .ensures) (c .before .v .given .1)))
 
 returns-3 : tie.Need-returns-3
 unfolding loaderNameAt symbolNameIn nameOf entryOf
-returns-3 c = reported reportOfRange (rw (found (c .before .before .before .before .before .before .before .before .before .before .before .before .module-of .ensures .0) (c .before .before .before .before .before .before .before .before .before .before .a2 .given .1), found (c .before .before .before .before .before .before .before .check-index .ensures) (c .before .before .before .before .before .enum-told .given .1), c .name-range .ensures, c .before .read-entry .ensures, c .before .before .entry-base .ensures))
+returns-3 c = reported (reportOfRange _) (rw (found (c .before .before .before .before .before .before .before .before .before .before .before .before .module-of .ensures .0) (c .before .before .before .before .before .before .before .before .before .before .a2 .given .1), found (c .before .before .before .before .before .before .before .check-index .ensures) (c .before .before .before .before .before .enum-told .given .1), c .name-range .ensures, c .before .read-entry .ensures, c .before .before .entry-base .ensures))
 
 pub loader-symbol-name-range-spec : {M : Type 1} → statement M
 loader-symbol-name-range-spec =

@@ -51,14 +51,14 @@ returns : tie.Need-returns
 returns c =
     let a = c .before .before .before .before .before .before .before .args in
     let v = looked-up (a .file .now) (a .n) (c .before .before .before .before .before .«open» .ensures .0) (c .before .before .before .check-number .ensures) in
-    reported reportOfSection (section-refused (a .file .now) (a .n) _ v (c .before .v .given .1))
+    reported (reportOfSection _) (section-refused (a .file .now) (a .n) _ v (c .before .v .given .1))
 
 returns-2 : tie.Need-returns-2
 returns-2 c =
     let a = c .before .before .before .before .before .before .before .before .args in
     let o = c .before .before .before .before .before .before .«open» .ensures .0 in
     let v = looked-up (a .file .now) (a .n) o (c .before .before .before .before .check-number .ensures) in
-    reported reportOfSection (section-found (a .file .now) (a .n) o v (c .before .before .enum-told .given .1))
+    reported (reportOfSection _) (section-found (a .file .now) (a .n) o v (c .before .before .enum-told .given .1))
 
 pub section-at-spec : {M : Type 1} → statement M
 section-at-spec =

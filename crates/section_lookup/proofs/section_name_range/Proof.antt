@@ -2,8 +2,8 @@ use mathlib.Core.Path.{_≡_}
 use native.Mathlib.Omega.{arith}
 use borrow.Author.Needs.{needs}
 use Rattle.refusal.specs.declared.Verdict.the-variants.{Accepted}
-use Rattle.refusal.specs.Part.{reportOfRange}
 use Rattle.refusal.proofs.Report.{reported}
+use Rattle.offset.specs.Report.{reportOfRange}
 use Rattle.word.proofs.Test.{found}
 use Rattle.section_lookup.proofs.Lookup.{looked-up, known, inside, name-whole, name-refused, name-found}
 use Rattle.file_header.specs.Header.{sectionStart}
@@ -53,7 +53,7 @@ returns : tie.Need-returns
 returns c =
     let a = c .before .before .before .before .before .before .before .args in
     let v = looked-up (a .file .now) (a .n) (c .before .before .before .before .before .«open» .ensures .0) (c .before .before .before .check-number .ensures) in
-    reported reportOfRange (name-refused (a .file .now) (a .n) _ v (c .before .v .given .1))
+    reported (reportOfRange _) (name-refused (a .file .now) (a .n) _ v (c .before .v .given .1))
 
 returns-2 : tie.Need-returns-2
 unfolding nameOf
@@ -61,7 +61,7 @@ returns-2 c =
     let a = c .before .before .before .before .before .before .before .before .before .before .before .args in
     let o = c .before .before .before .before .before .before .before .before .before .«open» .ensures .0 in
     let v = looked-up (a .file .now) (a .n) o (c .before .before .before .before .before .before .before .check-number .ensures) in
-    reported reportOfRange (name-found (a .file .now) (a .n) v (c .before .before .before .before .before .enum-told .given .1)
+    reported (reportOfRange _) (name-found (a .file .now) (a .n) v (c .before .before .before .before .before .enum-told .given .1)
     (rw (← o, c .text-in .ensures, c .before .section-start .ensures, c .before .before .before .before .section-layout .ensures)))
 
 pub section-name-range-spec : {M : Type 1} → statement M

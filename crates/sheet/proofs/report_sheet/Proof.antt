@@ -5,28 +5,28 @@ use Rattle.sheet.proofs.report_sheet.Tie as tie
 enum-known-a : tie.Need-enum-known-a
 enum-known-a c = search needs
 
-report-head-requires : tie.Need-report-head-requires
-report-head-requires c κs = search needs
+accepted-head-requires : tie.Need-accepted-head-requires
+accepted-head-requires c κs = search needs
 
 enum-known-a-2 : tie.Need-enum-known-a-2
 enum-known-a-2 c = search needs
 
-report-head-requires-2 : tie.Need-report-head-requires-2
-report-head-requires-2 c κs = search needs
+refused-head-requires : tie.Need-refused-head-requires
+refused-head-requires c κs = search needs
 
 returns : tie.Need-returns
-returns c = rw (c .before .before .before .before .a .given .1, c .report-head .ensures)
+returns c = rw (c .before .before .before .before .a .given .1, c .accepted-head .ensures)
 
 returns-2 : tie.Need-returns-2
-returns-2 c = rw (c .before .before .a2 .given .1, c .report-head2 .ensures)
+returns-2 c = rw (c .before .before .a2 .given .1, c .refused-head .ensures)
 
 pub report-sheet-spec : {M : Type 1} → statement M
 report-sheet-spec =
     tie.close
     (tie.spec
     enum-known-a
-    report-head-requires
+    accepted-head-requires
     enum-known-a-2
-    report-head-requires-2
+    refused-head-requires
     returns
     returns-2)

@@ -16,10 +16,10 @@ length-valid-requires : tie.Need-length-valid-requires
 length-valid-requires c κs = found-valid _ (c .before .before .before .module-of .ensures .0) _ (c .before .a2 .given .1)
 
 returns : tie.Need-returns
-returns c = length-reported (file-no-length _ (c .before .before .before .module-of .ensures .0) _ _ (c .before .a .given .1))
+returns c = length-reported _ (file-no-length _ (c .before .before .before .module-of .ensures .0) _ _ (c .before .a .given .1))
 
 returns-2 : tie.Need-returns-2
-returns-2 c = length-reported (file-length _ (c .before .before .before .before .module-of .ensures .0) _ _ _ (c .before .before .a2 .given .1) (c .length-valid .ensures))
+returns-2 c = length-reported _ (file-length _ (c .before .before .before .before .module-of .ensures .0) _ _ _ (c .before .before .a2 .given .1) (c .length-valid .ensures))
 
 pub records-length-spec : {M : Type 1} → statement M
 records-length-spec =

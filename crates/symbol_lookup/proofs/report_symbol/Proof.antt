@@ -6,14 +6,14 @@ use Rattle.symbol_lookup.proofs.report_symbol.Tie as tie
 enum-known-a : tie.Need-enum-known-a
 enum-known-a c = search needs
 
-report-head-requires : tie.Need-report-head-requires
-report-head-requires c κs = search needs
+refusal-head-requires : tie.Need-refusal-head-requires
+refusal-head-requires c κs = search needs
 
 enum-known-a-2 : tie.Need-enum-known-a-2
 enum-known-a-2 c = search needs
 
-report-head-requires-2 : tie.Need-report-head-requires-2
-report-head-requires-2 c κs = search needs
+accepted-head-requires : tie.Need-accepted-head-requires
+accepted-head-requires c κs = search needs
 
 scnum-of-requires : tie.Need-scnum-of-requires
 scnum-of-requires c κs = search needs
@@ -28,19 +28,19 @@ bits-of-requires : tie.Need-bits-of-requires
 bits-of-requires c κs = search needs
 
 returns : tie.Need-returns
-returns c = rw (c .before .before .a .given .1, c .report-head .ensures) refl
+returns c = rw (c .before .before .a .given .1, c .refusal-head .ensures) refl
 
 returns-2 : tie.Need-returns-2
-returns-2 c = rw (c .before .before .before .before .before .before .a2 .given .1, c .before .before .before .before .report-head2 .ensures, c .before .before .before .scnum-of .ensures, c .before .one-if .ensures, c .before .before .is-claimed .ensures, c .bits-of .ensures) refl
+returns-2 c = rw (c .before .before .before .before .before .before .a2 .given .1, c .before .before .before .before .accepted-head .ensures, c .before .before .before .scnum-of .ensures, c .before .one-if .ensures, c .before .before .is-claimed .ensures, c .bits-of .ensures) refl
 
 pub report-symbol-spec : {M : Type 1} → statement M
 report-symbol-spec =
     tie.close
     (tie.spec
     enum-known-a
-    report-head-requires
+    refusal-head-requires
     enum-known-a-2
-    report-head-requires-2
+    accepted-head-requires
     scnum-of-requires
     is-claimed-requires
     one-if-requires

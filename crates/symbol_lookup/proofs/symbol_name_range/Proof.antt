@@ -2,8 +2,8 @@ use mathlib.Core.Path.{_∙_}
 use Rattle.symbol.proofs.Opened.{opened-tables}
 use Rattle.symbol_lookup.proofs.Lookup.{name-opened, name-refused}
 use borrow.Author.Needs.{needs}
-use Rattle.refusal.specs.Part.{reportOfRange}
 use Rattle.refusal.proofs.Report.{reported}
+use Rattle.offset.specs.Report.{reportOfRange}
 use Rattle.symbol_lookup.proofs.symbol_name_range.Statement.{statement}
 use Rattle.symbol_lookup.proofs.symbol_name_range.Tie as tie
 
@@ -23,10 +23,10 @@ name-in-requires : tie.Need-name-in-requires
 name-in-requires c κs = search needs
 
 returns : tie.Need-returns
-returns c = let a = c .before .before .before .before .before .args in reported reportOfRange (name-refused (a .file .now) (a .i) (c .before .before .before .«open» .ensures .0) (c .before .v .given .1))
+returns c = let a = c .before .before .before .before .before .args in reported (reportOfRange _) (name-refused (a .file .now) (a .i) (c .before .before .before .«open» .ensures .0) (c .before .v .given .1))
 
 returns-2 : tie.Need-returns-2
-returns-2 c = let a = c .before .before .before .before .before .before .before .args in reported reportOfRange (c .name-in .ensures ∙ name-opened (a .file .now) (a .i) (c .before .tables-of .ensures))
+returns-2 c = let a = c .before .before .before .before .before .before .before .args in reported (reportOfRange _) (c .name-in .ensures ∙ name-opened (a .file .now) (a .i) (c .before .tables-of .ensures))
 
 pub symbol-name-range-spec : {M : Type 1} → statement M
 symbol-name-range-spec =

@@ -19,14 +19,21 @@ fn after(words: &[&str], key: &str) -> Option<u64> {
     digits.parse().ok()
 }
 
+/// Number and item: the offset isn't recorded.
+type Recorded = (u64, u64);
+
+fn recorded(refusal: Refusal) -> Recorded {
+    (refusal.number, refusal.item)
+}
+
 /// A refusal written as `5 BOUNDS item 3`.
-fn refusal_at(words: &[&str]) -> Option<Refusal> {
+fn refusal_at(words: &[&str]) -> Option<Recorded> {
     let number = words.first()?.parse().ok()?;
     if words.get(1) != Some(&word(number)) || words.get(2) != Some(&"item") {
         return None;
     }
     let item = words.get(3)?.trim_end_matches(']').parse().ok()?;
-    Some(Refusal { number, item })
+    Some((number, item))
 }
 
 struct Check {
@@ -70,13 +77,14 @@ fn check_verdict(check: &mut Check, line: &str, file: &[u8]) {
     let name = words[0];
     check.same(name, "size", file.len().to_string(), words[1].to_string());
     if words[2] == "OPEN" {
-        check.same(name, "open", open(file).err(), refusal_at(&words[3..]));
+        let refusal = open(file).err().map(recorded);
+        check.same(name, "open", refusal, refusal_at(&words[3..]));
         return;
     }
     let summary = match open(file) {
         Ok(summary) => summary,
         Err(refusal) => {
-            check.same(name, "open", Some(refusal), None);
+            check.same(name, "open", Some(recorded(refusal)), None);
             return;
         }
     };
@@ -87,7 +95,8 @@ fn check_verdict(check: &mut Check, line: &str, file: &[u8]) {
     check.same(name, "aux", Some(summary.opthdr), after(&symbols, "aux"));
     check_walk(check, name, file, &symbols);
     if words[3] != "OK" {
-        check.same(name, "module", module(file).err(), refusal_at(&words[3..]));
+        let refusal = module(file).err().map(recorded);
+        check.same(name, "module", refusal, refusal_at(&words[3..]));
         return;
     }
     match module(file) {
@@ -103,7 +112,7 @@ fn check_walk(check: &mut Check, name: &str, file: &[u8], words: &[&str]) {
         let visited = found.visited.to_string();
         check.same(name, "walked", visited, words[at + 1].to_string());
         let end = refusal_at(&words[at + 4..]);
-        check.same(name, "walk's end", found.refusal, end);
+        check.same(name, "walk's end", found.refusal.map(recorded), end);
     } else {
         let all = open(file).expect("it opened").symbols;
         let visited = after(words, "syms");

@@ -5,12 +5,12 @@
 //! in one file the one with the lower stage must be given. `ROWS` make whole
 //! cases: symbols, csects, look-ups, plans, buffers and sheets. Those of S-records
 //! are in `records`, those of debugger names in `debug`, those of visibilities in
-//! `visibility`.
+//! `visibility`, those of offsets in `offsets`.
 
 use super::make::{self, top, Aux, Field, Head, Made, Part, Wish};
 use super::plans::{buffers, fitting_plan, past_end, reveal_module, reveal_open};
 use super::rng::Rng;
-use super::{debug, records, visibility, Op};
+use super::{debug, offsets, records, visibility, Op};
 use crate::bytes::put;
 use crate::opening::{
     BSS, DATA, DELETED, DWARF, INFO, KINDS, LOADER as LOADER_KIND, OVRFLO, TBSS, TDATA, TEXT,
@@ -39,8 +39,35 @@ pub struct Hurt {
     pub refusal: Refusal,
 }
 
+/// One whose item names no place in the file.
 fn given(number: u64, item: u64) -> Option<Refusal> {
-    Some(Refusal { number, item })
+    given_at(number, item, 0)
+}
+
+fn given_at(number: u64, item: u64, at: usize) -> Option<Refusal> {
+    Some(Refusal {
+        number,
+        item,
+        offset: at as u64,
+    })
+}
+
+fn of_section(made: &Made, number: u64, n: u64) -> Option<Refusal> {
+    given_at(number, n, made.section_at(n))
+}
+
+/// One of the loader section, wherever its header says that it is.
+pub(super) fn of_loader(made: &Made, number: u64, item: u64) -> Option<Refusal> {
+    let at = made.get(made.section_field(made.loader, Part::Pointer));
+    given_at(number, item, at as usize)
+}
+
+fn of_loader_symbol(made: &Made, i: usize) -> Option<Refusal> {
+    given_at(LSYM, i as u64 + 3, made.loader_symbol_at(i))
+}
+
+fn of_entry(made: &Made, number: u64, i: usize) -> Option<Refusal> {
+    given_at(number, i as u64, made.entry_at(i))
 }
 
 /// Stages up to this one are found in opening.
@@ -168,7 +195,7 @@ pub static STEPS: &[Step] = &[
                 }
             };
             made.put(made.section_field(n, Part::Flags), flags);
-            given(KIND, n)
+            of_section(made, KIND, n)
         },
     },
     Step {
@@ -199,7 +226,7 @@ pub static STEPS: &[Step] = &[
             };
             made.put(made.section_field(n, Part::Pointer), pointer);
             made.put(made.section_field(n, Part::Size), size);
-            given(BOUNDS, n)
+            of_section(made, BOUNDS, n)
         },
     },
     Step {
@@ -212,7 +239,7 @@ pub static STEPS: &[Step] = &[
             let field = made.section_field(n, rng.pick(&[Part::Paddr, Part::Vaddr]));
             let change = rng.pick(&[1, 1 << 31, u64::MAX, 0x1000]);
             made.put(field, made.get(field) ^ change);
-            given(ADDRESS, n)
+            of_section(made, ADDRESS, n)
         },
     },
     Step {
@@ -238,7 +265,7 @@ pub static STEPS: &[Step] = &[
             }
             made.put(made.section_field(n, Part::Paddr), address as u64);
             made.put(made.section_field(n, Part::Vaddr), address as u64);
-            given(ADDRESS, n)
+            of_section(made, ADDRESS, n)
         },
     },
     Step {
@@ -288,7 +315,7 @@ pub static STEPS: &[Step] = &[
         stage: 8,
         hurt: |made, rng| {
             put(&mut made.bytes, made.strings_at, 4, rng.between(1, 3));
-            given(STRINGS, 0)
+            given_at(STRINGS, 0, made.strings_at)
         },
     },
     Step {
@@ -365,7 +392,7 @@ pub static STEPS: &[Step] = &[
                 made.put(made.section_field(n, Part::Pointer), 1);
                 made.put(made.section_field(n, Part::Size), 1);
             }
-            given(THREAD, n)
+            of_section(made, THREAD, n)
         },
     },
     Step {
@@ -433,7 +460,7 @@ pub static STEPS: &[Step] = &[
             }
             made.put(made.section_field(made.bss, Part::Paddr), address);
             made.put(made.section_field(made.bss, Part::Vaddr), address);
-            given(ADDRESS, made.bss)
+            of_section(made, ADDRESS, made.bss)
         },
     },
     Step {
@@ -479,7 +506,13 @@ pub static STEPS: &[Step] = &[
             if size == 0 && rng.chance(50) {
                 made.put(made.section_field(made.loader, Part::Pointer), 0);
             }
-            given(LOADER, 0)
+            // An empty one has no raw data, or has it at the file's end.
+            let end = made.bytes.len() as u64;
+            if let Some(pointer) = rng.aside().pick(&[None, None, Some(0), Some(end)]) {
+                made.put(made.section_field(made.loader, Part::Size), 0);
+                made.put(made.section_field(made.loader, Part::Pointer), pointer);
+            }
+            of_loader(made, LOADER, 0)
         },
     },
     Step {
@@ -489,7 +522,7 @@ pub static STEPS: &[Step] = &[
         hurt: |made, rng| {
             let version = rng.pick(&[0, 3, 0x0100_0000, 0x0001_0000, 0xFFFF_FFFF]);
             made.put(made.head(Head::Version)?, version);
-            given(LOADER, 1)
+            of_loader(made, LOADER, 1)
         },
     },
     Step {
@@ -499,7 +532,7 @@ pub static STEPS: &[Step] = &[
         hurt: |made, rng| {
             let count = rng.pick(&[4_097, 4_098, 0x0001_0000, 0x8000_0000, 0xFFFF_FFFF]);
             made.put(made.head(Head::Symbols)?, count);
-            given(LIMIT, 2)
+            of_loader(made, LIMIT, 2)
         },
     },
     Step {
@@ -509,7 +542,7 @@ pub static STEPS: &[Step] = &[
         hurt: |made, rng| {
             let count = rng.pick(&[4_097, 4_098, 0x0001_0000, 0x8000_0000, 0xFFFF_FFFF]);
             made.put(made.head(Head::Relocations)?, count);
-            given(LIMIT, 3)
+            of_loader(made, LIMIT, 3)
         },
     },
     Step {
@@ -528,7 +561,7 @@ pub static STEPS: &[Step] = &[
                 32,
                 4_096,
             )?;
-            given(LOADER, 2)
+            of_loader(made, LOADER, 2)
         },
     },
     Step {
@@ -549,7 +582,7 @@ pub static STEPS: &[Step] = &[
                 start,
                 4_096,
             )?;
-            given(LOADER, 3)
+            of_loader(made, LOADER, 3)
         },
     },
     Step {
@@ -568,7 +601,7 @@ pub static STEPS: &[Step] = &[
                 0,
                 0xFFFF_FFFF,
             )?;
-            given(LOADER, 4)
+            of_loader(made, LOADER, 4)
         },
     },
     Step {
@@ -578,7 +611,7 @@ pub static STEPS: &[Step] = &[
         hurt: |made, rng| {
             if rng.chance(25) {
                 made.put(made.head(Head::IdLength)?, 0);
-                return given(LOADER, 4);
+                return of_loader(made, LOADER, 4);
             }
             let table = &made.bytes[made.ids_at..made.ids_at + made.ids_length];
             let zeros = table.iter().filter(|&&byte| byte == 0).count() as u64;
@@ -590,7 +623,7 @@ pub static STEPS: &[Step] = &[
                 0xFFFF_FFFF,
             ]);
             made.put(made.head(Head::Ids)?, count);
-            given(LOADER, 4)
+            of_loader(made, LOADER, 4)
         },
     },
     Step {
@@ -609,7 +642,7 @@ pub static STEPS: &[Step] = &[
                 0,
                 0xFFFF_FFFF,
             )?;
-            given(LOADER, 5)
+            of_loader(made, LOADER, 5)
         },
     },
     Step {
@@ -623,7 +656,7 @@ pub static STEPS: &[Step] = &[
                 length: 1,
             };
             made.put(field, made.get(field) & 0xF8 | rng.between(4, 7));
-            given(LSYM, i as u64 + 3)
+            of_loader_symbol(made, i)
         },
     },
     Step {
@@ -642,7 +675,7 @@ pub static STEPS: &[Step] = &[
                     made.text, made.data, made.bss, 0xFFFF, 0xFFFE, 0x0100, 0x8000,
                 ]),
             );
-            given(LSYM, i as u64 + 3)
+            of_loader_symbol(made, i)
         },
     },
     Step {
@@ -665,7 +698,7 @@ pub static STEPS: &[Step] = &[
                     0xFFFF_FFFF,
                 ]),
             );
-            given(LSYM, i as u64 + 3)
+            of_loader_symbol(made, i)
         },
     },
     Step {
@@ -679,7 +712,7 @@ pub static STEPS: &[Step] = &[
                 length: 4,
             };
             made.put(field, rng.pick(&[1, made.ids, 0x0100_0000, 0xFFFF_FFFF]));
-            given(LSYM, i as u64 + 3)
+            of_loader_symbol(made, i)
         },
     },
     Step {
@@ -697,7 +730,7 @@ pub static STEPS: &[Step] = &[
             bad.extend([made.text + 0x100, made.text + 0x8000, made.bss + 0x8000]);
             bad.extend(extra_section(made, rng));
             made.put(field, rng.pick(&bad));
-            given(LSYM, i as u64 + 3)
+            of_loader_symbol(made, i)
         },
     },
     Step {
@@ -720,7 +753,7 @@ pub static STEPS: &[Step] = &[
             // At the table's end its last two bytes would have to be a length; any
             // length but 0 passes the end, and 0 has no closing zero.
             made.set_loader_name_offset(i, offset);
-            given(LSYM, i as u64 + 3)
+            of_loader_symbol(made, i)
         },
     },
     Step {
@@ -735,7 +768,7 @@ pub static STEPS: &[Step] = &[
             // 0 has no closing zero; past the table; one more holds two zeros or
             // ends without one.
             made.put(field, rng.pick(&[0, left + 1, 0xFFFF, 0x8000]));
-            given(LSYM, i as u64 + 3)
+            of_loader_symbol(made, i)
         },
     },
     Step {
@@ -755,7 +788,7 @@ pub static STEPS: &[Step] = &[
             made.set_loader_name_offset(i, 1);
             made.bytes[at] = 1;
             made.bytes[at + 1] = 0;
-            given(LSYM, i as u64 + 3)
+            of_loader_symbol(made, i)
         },
     },
     Step {
@@ -772,7 +805,7 @@ pub static STEPS: &[Step] = &[
             }
             let length = made.head(Head::StringLength)?;
             made.put(length, made.loader_strings_length as u64 - 1);
-            given(LSYM, last? as u64 + 3)
+            of_loader_symbol(made, last?)
         },
     },
     Step {
@@ -787,7 +820,7 @@ pub static STEPS: &[Step] = &[
                 length: 2,
             }) as usize;
             made.bytes[start + length - 1] = rng.between(1, 255) as u8;
-            given(LSYM, i as u64 + 3)
+            of_loader_symbol(made, i)
         },
     },
     Step {
@@ -805,7 +838,7 @@ pub static STEPS: &[Step] = &[
                 return None;
             }
             made.bytes[start + rng.below(length - 1) as usize] = 0;
-            given(LSYM, i as u64 + 3)
+            of_loader_symbol(made, i)
         },
     },
     Step {
@@ -822,7 +855,7 @@ pub static STEPS: &[Step] = &[
                 // THREAD comes before the same entry's LREL.
                 made.put(made.entry_type_field(i), 0xFFFF);
             }
-            given(THREAD, i as u64)
+            of_entry(made, THREAD, i)
         },
     },
     Step {
@@ -836,7 +869,7 @@ pub static STEPS: &[Step] = &[
                 0x02, 0x03, 0x0A, 0x0B, 0x0E, 0x0F, 0x10, 0x1A, 0x20, 0x80, 0xFF,
             ]);
             made.put(field, made.get(field) & 0xFF00 | low);
-            given(LREL, i as u64)
+            of_entry(made, LREL, i)
         },
     },
     Step {
@@ -852,7 +885,7 @@ pub static STEPS: &[Step] = &[
             }
             let width: u64 = rng.pick(&widths);
             made.put(field, made.get(field) & 0xC0FF | (width - 1) << 8);
-            given(LREL, i as u64)
+            of_entry(made, LREL, i)
         },
     },
     Step {
@@ -872,7 +905,7 @@ pub static STEPS: &[Step] = &[
             }
             let field = made.entry_type_field(i);
             made.put(field, made.get(field) & 0xC0FF | 0x3F00);
-            given(LREL, i as u64)
+            of_entry(made, LREL, i)
         },
     },
     Step {
@@ -885,7 +918,7 @@ pub static STEPS: &[Step] = &[
             let mut bad = vec![0, made.bss, made.loader, count + 1, 0xFFFF];
             bad.extend([made.data + 0x100, made.data + 0x8000, made.text + 0x8000]);
             made.put(made.entry_section_field(i), rng.pick(&bad));
-            given(LREL, i as u64)
+            of_entry(made, LREL, i)
         },
     },
     Step {
@@ -922,7 +955,7 @@ pub static STEPS: &[Step] = &[
                 return None;
             }
             made.put(made.entry_address_field(i), address as u64);
-            given(LREL, i as u64)
+            of_entry(made, LREL, i)
         },
     },
     Step {
@@ -936,7 +969,7 @@ pub static STEPS: &[Step] = &[
                 made.entry_symbol_field(i),
                 rng.pick(&[past, past + 1, 0x8000_0000, 0xFFFF_FFFD]),
             );
-            given(LREL, i as u64)
+            of_entry(made, LREL, i)
         },
     },
     Step {
@@ -966,7 +999,7 @@ pub static STEPS: &[Step] = &[
             }
             made.put(made.entry_address_field(later), address as u64);
             made.put(made.entry_section_field(later), one.section);
-            given(OVERLAP, later as u64)
+            of_entry(made, OVERLAP, later)
         },
     },
     Step {
@@ -990,7 +1023,7 @@ pub static STEPS: &[Step] = &[
             }
             made.put(made.entry_address_field(later), one.address);
             made.put(made.entry_section_field(later), one.section);
-            given(OVERLAP, later as u64)
+            of_entry(made, OVERLAP, later)
         },
     },
     Step {
@@ -1006,7 +1039,7 @@ pub static STEPS: &[Step] = &[
             }
             made.put(made.entry_address_field(later), one.address + 4);
             made.put(made.entry_section_field(later), one.section);
-            given(OVERLAP, later as u64)
+            of_entry(made, OVERLAP, later)
         },
     },
 ];
@@ -1495,7 +1528,7 @@ pub fn records_count() -> usize {
 
 /// How many damages there are in all.
 pub fn count() -> usize {
-    records_count() + debug::ROWS.len() + visibility::ROWS.len()
+    records_count() + debug::ROWS.len() + visibility::ROWS.len() + offsets::ROWS.len()
 }
 
 /// The rows in their order: document 01, then the requests.
@@ -1504,6 +1537,7 @@ pub fn rows() -> impl Iterator<Item = &'static Row> {
         .chain(records::ROWS)
         .chain(debug::ROWS)
         .chain(visibility::ROWS)
+        .chain(offsets::ROWS)
 }
 
 /// The names of all damages.
@@ -1574,11 +1608,12 @@ fn rng_between(low: u64, high: u64) -> u64 {
 }
 
 pub(super) fn hurt(made: Made, op: Op, number: u64, item: u64) -> Option<Hurt> {
-    Some(Hurt {
-        made,
-        op,
-        refusal: Refusal { number, item },
-    })
+    let at = match number {
+        AUX | NAME | SECTION | CSECT | VISIBILITY => made.symbol_at(item),
+        _ => 0,
+    };
+    let refusal = given_at(number, item, at)?;
+    Some(Hurt { made, op, refusal })
 }
 
 /// A module with some of everything.

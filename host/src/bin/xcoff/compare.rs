@@ -5,7 +5,7 @@ use crate::found::Found;
 use crate::listing::{hex, number, word, Cell, Listing};
 use crate::lists::image_word;
 use crate::load::{Loaded, Pair, Sheet};
-use crate::output::{complain, refused};
+use crate::output::{complain, refused_in};
 use crate::problem::Problem;
 use xcoff::{Image, Relocation};
 
@@ -37,7 +37,8 @@ pub struct Beside<'a> {
 
 impl Fields {
     pub fn of(file: &Loaded) -> Result<Fields, Problem> {
-        let mut fields = refused(file.path, xcoff::relocation_table(&file.bytes))?;
+        let fields = xcoff::relocation_table(&file.bytes);
+        let mut fields = refused_in(file.path, &file.bytes, fields)?;
         fields.sort_by_key(|f| (f.image, f.offset));
         fields.dedup_by_key(|f| (f.image, f.offset));
         Ok(Fields(fields))

@@ -4,7 +4,7 @@ use crate::args::Arguments;
 use crate::escape;
 use crate::files;
 use crate::listing::{hex, names, number, word, Cell, Column, Listing};
-use crate::output::{print, refused};
+use crate::output::{print, refused_in};
 use crate::problem::Problem;
 use crate::words::{class_word, kind_word, mapping_word, section_word, visibility_word};
 use std::io;
@@ -16,11 +16,14 @@ use xcoff::{
 pub fn headers(args: &Arguments) -> Result<(), Problem> {
     let path = args.path(0);
     let file = files::read(path, files::FILE)?;
-    let opened = refused(path, xcoff::open(&file))?;
+    let opened = refused_in(path, &file, xcoff::open(&file))?;
     let mut sections = Vec::new();
     for n in 1..=opened.sections {
-        let section = refused(path, xcoff::section(&file, n))?;
-        sections.push((section, refused(path, xcoff::section_name(&file, n))?));
+        let section = refused_in(path, &file, xcoff::section(&file, n))?;
+        sections.push((
+            section,
+            refused_in(path, &file, xcoff::section_name(&file, n))?,
+        ));
     }
     print(|out| {
         let mut list = Listing::new(out, args.has("--json"));
@@ -82,15 +85,15 @@ fn section_row(list: &mut Listing, n: u64, section: &Section, name: &[u8]) -> io
 pub fn symbols(args: &Arguments) -> Result<(), Problem> {
     let path = args.path(0);
     let file = files::read(path, files::FILE)?;
-    let opened = refused(path, xcoff::open(&file))?;
-    let table = refused(path, xcoff::symbol_table(&file))?;
+    let opened = refused_in(path, &file, xcoff::open(&file))?;
+    let table = refused_in(path, &file, xcoff::symbol_table(&file))?;
     print(|out| {
         let mut list = Listing::new(out, args.has("--json"));
         list.table("symbols", symbol_columns(opened.format, &table))?;
         table.rows().try_for_each(|row| symbol_row(&mut list, &row))
     })?;
     match table.walk.cause {
-        Some(refusal) => refused(path, Err(refusal)),
+        Some(refusal) => refused_in(path, &file, Err(refusal)),
         None => Ok(()),
     }
 }
@@ -157,8 +160,8 @@ fn csect_cell(row: &SymbolRow) -> Cell<'static> {
 pub fn module(args: &Arguments) -> Result<(), Problem> {
     let path = args.path(0);
     let file = files::read(path, files::FILE)?;
-    let module = refused(path, xcoff::module(&file))?;
-    let symbols = refused(path, xcoff::loader_symbol_table(&file))?;
+    let module = refused_in(path, &file, xcoff::module(&file))?;
+    let symbols = refused_in(path, &file, xcoff::loader_symbol_table(&file))?;
     print(|out| {
         let mut list = Listing::new(out, args.has("--json"));
         module_row(&mut list, &module)?;
@@ -278,9 +281,9 @@ pub fn use_word(row: &LoaderRow) -> &'static str {
 pub fn imports(args: &Arguments) -> Result<(), Problem> {
     let path = args.path(0);
     let file = files::read(path, files::FILE)?;
-    let module = refused(path, xcoff::module(&file))?;
-    let ids = refused(path, xcoff::import_table(&file))?;
-    let symbols = refused(path, xcoff::loader_symbol_table(&file))?;
+    let module = refused_in(path, &file, xcoff::module(&file))?;
+    let ids = refused_in(path, &file, xcoff::import_table(&file))?;
+    let symbols = refused_in(path, &file, xcoff::loader_symbol_table(&file))?;
     let id_columns = vec![
         number("id", module.ids),
         names("path", ids.rows().map(|id| id.path)),
@@ -328,9 +331,9 @@ fn imported(list: &mut Listing, m: &Module, symbols: &[LoaderRow]) -> io::Result
 pub fn relocations(args: &Arguments) -> Result<(), Problem> {
     let path = args.path(0);
     let file = files::read(path, files::FILE)?;
-    let module = refused(path, xcoff::module(&file))?;
-    let symbols = refused(path, xcoff::loader_symbol_table(&file))?;
-    let entries = refused(path, xcoff::relocation_table(&file))?;
+    let module = refused_in(path, &file, xcoff::module(&file))?;
+    let symbols = refused_in(path, &file, xcoff::loader_symbol_table(&file))?;
+    let entries = refused_in(path, &file, xcoff::relocation_table(&file))?;
     let columns = vec![
         number("entry", module.relocations),
         hex("address", digits(module.format)),

@@ -4,7 +4,7 @@ use crate::args::Arguments;
 use crate::escape;
 use crate::files;
 use crate::lists;
-use crate::output::refused;
+use crate::output::{refused, refused_in};
 use crate::problem::Problem;
 use std::path::Path;
 use xcoff::{Image, Module, Plan, Reached, Refusal};
@@ -32,7 +32,7 @@ pub struct Pair {
 impl<'p> Loaded<'p> {
     pub fn read(path: &'p Path) -> Result<Loaded<'p>, Problem> {
         let bytes = files::read(path, files::FILE)?;
-        let module = refused(path, xcoff::module(&bytes))?;
+        let module = refused_in(path, &bytes, xcoff::module(&bytes))?;
         Ok(Loaded {
             path,
             bytes,

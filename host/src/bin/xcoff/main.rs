@@ -18,6 +18,7 @@ mod output;
 mod plans;
 mod problem;
 mod records;
+mod shown;
 mod syntax;
 mod words;
 

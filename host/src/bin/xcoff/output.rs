@@ -2,6 +2,7 @@
 
 use crate::escape;
 use crate::problem::Problem;
+use crate::shown;
 use std::io::{self, BufWriter, Write};
 use std::path::Path;
 use xcoff::{Reached, Refusal};
@@ -32,9 +33,18 @@ pub fn say_done(line: &str) -> Result<(), Problem> {
     })
 }
 
-/// An answer about one file.
+/// An answer about a sheet.
 pub fn refused<T>(path: &Path, answer: Result<T, Refusal>) -> Result<T, Problem> {
     answer.map_err(|refusal| Problem::refused(escape::argument(path), refusal))
+}
+
+/// An answer about an XCOFF file: what stands where a refusal points is shown.
+pub fn refused_in<T>(path: &Path, file: &[u8], answer: Result<T, Refusal>) -> Result<T, Problem> {
+    answer.map_err(|refusal| Problem::Refused {
+        about: escape::argument(path),
+        refusal,
+        shown: shown::lines(file, &refusal),
+    })
 }
 
 /// The entry and TOC addresses that a call reached.

@@ -6,7 +6,7 @@ use crate::files;
 use crate::listing::{hex, number, word, Cell, Column, Listing};
 use crate::lists::use_word;
 use crate::load::{apart, Loaded, Sheet};
-use crate::output::{print, reached_words, refused, say_done};
+use crate::output::{print, reached_words, refused, refused_in, say_done};
 use crate::problem::Problem;
 use std::ffi::OsStr;
 use std::io;
@@ -27,7 +27,8 @@ pub fn plan(args: &Arguments) -> Result<(), Problem> {
     apart(args, &[("SHEET", out)], &[("FILE", args.path(0))])?;
 
     let file = Loaded::read(args.path(0))?;
-    let symbols = refused(file.path, xcoff::loader_symbol_table(&file.bytes))?;
+    let symbols = xcoff::loader_symbol_table(&file.bytes);
+    let symbols = refused_in(file.path, &file.bytes, symbols)?;
     let mut plan = Plan {
         text: text.unwrap_or(file.module.text.address),
         data: data.unwrap_or(file.module.data.address),
@@ -218,7 +219,8 @@ pub fn sheet(args: &Arguments) -> Result<(), Problem> {
         });
     };
     let file = Loaded::read(path)?;
-    let symbols = refused(path, xcoff::loader_symbol_table(&file.bytes))?;
+    let symbols = xcoff::loader_symbol_table(&file.bytes);
+    let symbols = refused_in(path, &file.bytes, symbols)?;
     file.build_sheet(&sheet)?;
     let digits = sheet_digits(&sheet.plan, file.digits());
     let mut columns = address_columns(&sheet.plan, digits);

@@ -221,8 +221,11 @@ Exit status: 0 done; 1 refused by a rule, or images that are not the plan's;
 2 a command line that makes no sense; 3 refused by the system (a file that is
 missing or unreadable, a full disk, a closed pipe).
 
-A refusal is a line on standard error with 'refused N I': the number of the rule
-and the item it names, then the rule's name and what it means.
+A refusal is a line on standard error with 'refused N I O': the number of the
+rule, the item it names and that item's offset in the file, 0 where it is not in
+the file; then the rule's name and what it means. Below it stand the bytes of the
+header or entry that is named, as a hex dump has them, and the fields that the
+rule speaks of.
 
 In listings, addresses, types and flags are hexadecimal, sizes, offsets and
 counts decimal. Names are bytes of the file: a blank, a quote or a byte that

@@ -83,7 +83,10 @@ impl Counts {
             self.left_out += 1;
             return;
         }
-        let mine = answers::answer(&case);
+        let mut mine = answers::answer(&case);
+        if !case.get("requests").numbers().contains(&4) {
+            mine = older::without_offsets(&mine);
+        }
         let found = difference(&mine, case.get("expect"), "expect");
         let operation = case.get("op").text().to_string();
         let counts = self.operations.entry(operation).or_insert((0, 0));

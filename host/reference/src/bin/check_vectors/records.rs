@@ -7,7 +7,11 @@ use std::ops::Range;
 pub fn refused(refusal: Refusal) -> Json {
     object(vec![(
         "refused",
-        Json::List(vec![num(refusal.number), num(refusal.item), num(0)]),
+        Json::List(vec![
+            num(refusal.number),
+            num(refusal.item),
+            num(refusal.offset),
+        ]),
     )])
 }
 

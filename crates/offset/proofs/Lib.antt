@@ -1,0 +1,7 @@
+-- The laws of offsets.
+
+pub mod Places
+pub mod Found
+pub mod Report
+pub mod Named
+pub mod Inside
