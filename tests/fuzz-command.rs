@@ -77,6 +77,10 @@ impl Commands {
             assert_eq!(self.run(&format!("{listing} m --json")), status, "{listing}");
             module = status;
         }
+        for address in ["text", "data", "@3", "puts"] {
+            let status = self.run(&format!("relocations m --follows {address}"));
+            assert!(status == module || module == 0 && status == 2, "{address}: status {status}");
+        }
         self.as_sheet();
         self.as_image(input);
         self.as_records();

@@ -6,12 +6,14 @@
 
 #[allow(unsafe_code)]
 mod ffi;
+mod follows;
 mod image;
 mod place;
 mod records;
 mod refusal;
 mod tables;
 
+pub use follows::{followed, PlanAddress};
 pub use image::{
     build_images, move_images, read_sheet, read_sheet_into, replay, write_sheet, write_sheet_into,
     Call, Plan, Reached, Replayed,

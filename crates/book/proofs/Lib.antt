@@ -1,5 +1,6 @@
--- The theorem of the book, what follows from it, and the law of composition.
+-- The theorem of the book, what follows from it, and the laws of composition and of bytes.
 pub mod Call
 pub mod Book
 pub mod Chain
 pub mod Entries
+pub mod Bytes

@@ -4,8 +4,6 @@ use mathlib.Core.Bool.{Bool, true, false, not}
 use mathlib.Core.Logic.{_⊎_, inl, inr}
 use mathlib.Core.List.{List, [], _∷_}
 use Prim.Native.Nat.{ℕ, _+_, _≤_, _<_}
-use native.Mathlib.Decide.{decLe, decLt}
-use native.Mathlib.Omega.{arith}
 use lib.ListN.{length, getD}
 use lib.IntN.{ℤ, pos, _+ℤ_, negℤ-+ℤ}
 use Rattle.update.specs.Update.{Apart, Bytes}
@@ -19,7 +17,7 @@ use Rattle.book.specs.Machine.{sum}
 use Rattle.book.specs.Entries as entries
 use Rattle.book.proofs.Entries as composition
 use Rattle.book.proofs.Entries.{FieldLaws}
-use Rattle.history.specs.Images.{Images, images, lengths, fields, Shifts, signed, addAt, applyEntry, applyAll, lengthOf, All, Inside, Pairwise, imageOf, InField}
+use Rattle.history.specs.Images.{Images, images, lengths, fields, Shifts, signed, addAt, applyEntry, applyAll, lengthOf, All, Inside, Pairwise, imageOf}
 
 -- ---- one field changed
 
@@ -30,7 +28,7 @@ other-image true w off z x = refl
 other-image false w off z x = refl
 
 -- what is outside the field stays
-addAt-outside : (t u : Bool) (w off k : ℕ) (z : ℤ) (x : Images) → (t ≡ u → (k < off) ⊎ (off + w ≤ k))
+pub addAt-outside : (t u : Bool) (w off k : ℕ) (z : ℤ) (x : Images) → (t ≡ u → (k < off) ⊎ (off + w ≤ k))
     → getD (imageOf u (addAt t w off z x)) k 0 ≡ getD (imageOf u x) k 0
 unfolding addAt
 addAt-outside true true w off k z x h = add-outside w off k z (x .text) (h refl)
@@ -39,18 +37,18 @@ addAt-outside false true w off k z x h = ap (λ (l : List ℕ). getD l k 0) (oth
 addAt-outside false false w off k z x h = add-outside w off k z (x .dat) (h refl)
 
 -- a field added to keeps both lengths
-addAt-lengths : (t : Bool) (w off : ℕ) (z : ℤ) (x : Images) → lengths (addAt t w off z x) ≡ lengths x
+pub addAt-lengths : (t : Bool) (w off : ℕ) (z : ℤ) (x : Images) → lengths (addAt t w off z x) ≡ lengths x
 unfolding addAt
 addAt-lengths true w off z x = ap (λ (n : ℕ). (n, length (x .dat))) (length-add w off z (x .text))
 addAt-lengths false w off z x = ap (λ (n : ℕ). (length (x .text), n)) (length-add w off z (x .dat))
 
 -- images of the same lengths have either length the same
-length-in : (u : Bool) (x y : Images) → lengths x ≡ lengths y → lengthOf u x ≡ lengthOf u y
+pub length-in : (u : Bool) (x y : Images) → lengths x ≡ lengths y → lengthOf u x ≡ lengthOf u y
 length-in true x y e = ap (λ (l : ℕ × ℕ). l .0) e
 length-in false x y e = ap (λ (l : ℕ × ℕ). l .1) e
 
 -- a then b is their sum
-addAt-add : (t : Bool) (w off : ℕ) (a b : ℤ) (x : Images) → off + w ≤ lengthOf t x → addAt t w off b (addAt t w off a x) ≡ addAt t w off (a +ℤ b) x
+pub addAt-add : (t : Bool) (w off : ℕ) (a b : ℤ) (x : Images) → off + w ≤ lengthOf t x → addAt t w off b (addAt t w off a x) ≡ addAt t w off (a +ℤ b) x
 unfolding addAt
 addAt-add true w off a b x h = ap (λ (l : List ℕ). images l (x .dat)) (add-add w off a b (x .text) h)
 addAt-add false w off a b x h = ap (λ (l : List ℕ). images (x .text) l) (add-add w off a b (x .dat) h)
@@ -80,15 +78,15 @@ addAt-apart false w off w′ off′ a b x h = ap (λ (l : List ℕ). images (x .
 -- ---- fields by their places
 
 -- z added to a field
-abbrev addTo : FieldPlace → ℤ → Images → Images
+abbrev pub addTo : FieldPlace → ℤ → Images → Images
 addTo f z x = addAt (f .text) (bytesWide (f .wide)) (f .offset) z x
 
 -- the field is inside its image
-abbrev Holds : Images → FieldPlace → Type 0
+abbrev pub Holds : Images → FieldPlace → Type 0
 Holds x f = f .offset + bytesWide (f .wide) ≤ lengthOf (f .text) x
 
 -- fields of different images, or that share no byte
-abbrev PlacesApart : FieldPlace → FieldPlace → Type 0
+abbrev pub PlacesApart : FieldPlace → FieldPlace → Type 0
 PlacesApart f g =
     (f .text ≡ g .text → ⊥) ⊎ ((f .text ≡ g .text) × Apart (f .offset) (bytesWide (f .wide)) (g .offset) (bytesWide (g .wide)))
 
@@ -100,7 +98,7 @@ same-or-apart f g (before e h) = inr (inr (e, inl h))
 same-or-apart f g (after e h) = inr (inr (e, inr h))
 
 -- changes of fields apart can change places
-addTo-apart : (f g : FieldPlace) (a b : ℤ) (x : Images) → PlacesApart f g → addTo f a (addTo g b x) ≡ addTo g b (addTo f a x)
+pub addTo-apart : (f g : FieldPlace) (a b : ℤ) (x : Images) → PlacesApart f g → addTo f a (addTo g b x) ≡ addTo g b (addTo f a x)
 addTo-apart f g a b x (inl h) =
     addAt-other (f .text) (g .text) (bytesWide (f .wide)) (f .offset) (bytesWide (g .wide)) (g .offset) a b x h
 addTo-apart f g a b x (inr h) =
@@ -124,12 +122,12 @@ inside-lengths (e ∷ es) x y h i = (rw (length-in (e .place .text) x y h) at (i
 -- ---- all entries by s and then all by t
 
 -- a sign goes over a sum
-signed-add : (m : Bool) (a b : ℤ) → signed m a +ℤ signed m b ≡ signed m (a +ℤ b)
+pub signed-add : (m : Bool) (a b : ℤ) → signed m a +ℤ signed m b ≡ signed m (a +ℤ b)
 signed-add true a b = sym (negℤ-+ℤ a b)
 signed-add false a b = refl
 
 -- what composition asks of a module's fields
-abbrev fieldLaws : FieldLaws fields
+abbrev pub fieldLaws : FieldLaws fields
 fieldLaws =
     record {
       Inside = Holds;
@@ -145,7 +143,7 @@ all-either : (e : Relocation) (es : List Relocation) → All (λ f. Compatible (
 all-either e [] c = tt
 all-either e (f ∷ es) c = (same-or-apart (e .place) (f .place) (c .0), all-either e es (c .1))
 
-pairwise-either : (es : List Relocation) → Pairwise es → entries.Pairwise (composition.Compatible fields fieldLaws) es
+pub pairwise-either : (es : List Relocation) → Pairwise es → entries.Pairwise (composition.Compatible fields fieldLaws) es
 pairwise-either [] p = tt
 pairwise-either (e ∷ es) p = (all-either e es (p .0), pairwise-either es (p .1))
 
@@ -179,26 +177,3 @@ pub applyAll-zero : (es : List Relocation) (x : Images) → Bytes (x .text) → 
 unfolding applyAll
 applyAll-zero [] x b c i = refl
 applyAll-zero (e ∷ es) x b c i = ap (λ (y : Images). applyAll es (λ i. pos 0) y) (entry-zero e x b c (i .0)) ∙ applyAll-zero es x b c (i .1)
-
--- ---- bytes outside the fields
-
--- an entry applied changes no byte outside its field
-entry-outside : (t : Bool) (k : ℕ) (e : Relocation) (s : Shifts) (x : Images) → (InField t k e → ⊥)
-    → getD (imageOf t (applyEntry e s x)) k 0 ≡ getD (imageOf t x) k 0
-unfolding applyEntry
-entry-outside t k e s x h =
-    addAt-outside (e .place .text) t (bytesWide (e .place .wide)) (e .place .offset) k (signed (e .minus) (s (e .symbol))) x
-    (λ p. by-place p (decLe (e .place .offset) k) (decLt k (e .place .offset + bytesWide (e .place .wide))))
-  where
-    by-place : e .place .text ≡ t → Dec (e .place .offset ≤ k) → Dec (k < e .place .offset + bytesWide (e .place .wide))
-        → (k < e .place .offset) ⊎ (e .place .offset + bytesWide (e .place .wide) ≤ k)
-    by-place p (yes a) (yes b) = absurd (h (p, a, b))
-    by-place p (yes a) (no b) = inr (omega arith)
-    by-place p (no a) d = inl (omega arith)
-
--- entries applied change no byte outside their fields
-pub applyAll-outside : (t : Bool) (k : ℕ) (es : List Relocation) (s : Shifts) (x : Images) → All (λ e. InField t k e → ⊥) es
-    → getD (imageOf t (applyAll es s x)) k 0 ≡ getD (imageOf t x) k 0
-unfolding applyAll
-applyAll-outside t k [] s x h = refl
-applyAll-outside t k (e ∷ es) s x h = applyAll-outside t k es s (applyEntry e s x) (h .1) ∙ entry-outside t k e s x (h .0)

@@ -17,7 +17,8 @@ use Rattle.history.specs.Plan.{Relocatable, Plan, Sound, SamePlan, SameA
 use Rattle.history.specs.Call.{Call, build, move, callCheck, accepted, effect, run, Accepts, machineOf}
 use Rattle.history.specs.Book.{Chain}
 use Rattle.history.specs.Book.Chain.{ended, moved, passed}
-use Rattle.history.proofs.Apply.{applyAll-add, applyAll-zero, applyAll-outside}
+use Rattle.history.proofs.Apply.{applyAll-add, applyAll-zero}
+use Rattle.history.proofs.Bytes.{applyAll-outside}
 use Rattle.history.proofs.Check.{move-back-accepted, build-reached-accepted, accepted-inside, verdict-after, verdict-after-all}
 use Rattle.history.proofs.Demand3.{module-lawful}
 use Rattle.book.specs.Machine as machine

@@ -5,7 +5,7 @@ use Prim.Native.Nat.{ℕ, _+_, _≤_, _<_}
 use lib.ListN.{length}
 use lib.IntN.{ℤ, negℤ}
 pub use Rattle.book.specs.Machine.{Shifts}
-pub use Rattle.book.specs.Entries.{All}
+pub use Rattle.book.specs.Entries.{All, Any}
 use Rattle.book.specs.Entries as entries
 use Rattle.update.specs.Update.{addField}
 use Rattle.relocation.specs.declared.FieldPlace.{FieldPlace}
@@ -70,6 +70,10 @@ Inside x e = e .place .offset + bytesWide (e .place .wide) ≤ lengthOf (e .plac
 abbrev pub Pairwise : List Relocation → Type 0
 Pairwise es = entries.Pairwise (λ e f. Compatible (e .place) (f .place)) es
 
--- byte k of the text image (t true) or the data image is in an entry's field
+-- byte k of the text image (t true) or the data image is in the field at a place
+abbrev pub InPlace : Bool → ℕ → FieldPlace → Type 0
+InPlace t k p = (p .text ≡ t) × (p .offset ≤ k) × (k < p .offset + bytesWide (p .wide))
+
+-- and in an entry's field
 abbrev pub InField : Bool → ℕ → Relocation → Type 0
-InField t k e = (e .place .text ≡ t) × (e .place .offset ≤ k) × (k < e .place .offset + bytesWide (e .place .wide))
+InField t k e = InPlace t k (e .place)

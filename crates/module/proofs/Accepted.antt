@@ -68,7 +68,7 @@ parts-anchors p a e =
 
 -- the checks that are passed give it
 checked-inside : (file : List ℕ) (y : Summary) → Inside file y → oneEach (talliesOf y) ≡ true → partsCheck (partsOf y) (auxOf file y) ≡ verdict.Accepted → ModuleInside file (moduleWith (y .format) (partsOf y) (auxOf file y))
-unfolding partsOf talliesOf moduleWith
+unfolding partsOf partAt talliesOf moduleWith
 checked-inside file y i one e =
     let p = partsOf y in
     let a = auxOf file y in
@@ -82,6 +82,7 @@ checked-inside file y i one e =
       text = part-in file y i _ (k .text .0) (k .text .1) (or-first (lacksData (p .text)) (lacksData (p .«data»)) pair);
       «data» = part-in file y i _ (k .«data» .0) (k .«data» .1) (or-second (lacksData (p .text)) (lacksData (p .«data»)) pair);
       loader = part-in file y i _ (k .loader .0) (k .loader .1) (or-second (lacksData (p .text) || lacksData (p .«data»)) (lacksData (p .loader)) lacks);
+      apart = k .apart;
       image = refl;
       holds = image-holds p (image .0) (ℕ-discrete (p .bss .size) 0);
       few = image .1;

@@ -18,6 +18,8 @@ pub record ModuleInside (file : List ℕ) (m : Module) : Type 0 where
   pub text : PartInside (length file) (m .parts .text)
   pub «data» : PartInside (length file) (m .parts .«data»)
   pub loader : PartInside (length file) (m .parts .loader)
+  -- neither data nor bss is the text section
+  pub apart : (m .parts .«data» .number .0 ≡ m .parts .text .number .0 → ⊥) × (m .parts .bss .number .0 ≡ m .parts .text .number .0 → ⊥)
   pub image : m .image ≡ imageLength (m .parts)
   pub holds : m .parts .«data» .size ≤ m .image
   pub few : m .image ≤ dataImageLimit

@@ -1,6 +1,6 @@
 -- Laws of the search for a module's sections. Assumes nothing.
-use Prim.Native.Nat.{ℕ, zero, suc, _+_, _≤_, _<_}
-use mathlib.Core.Path.{_≡_, sym, _∙_, ap}
+use Prim.Native.Nat.{ℕ, zero, suc, _+_, _-_, _≤_, _<_}
+use mathlib.Core.Path.{_≡_, refl, sym, _∙_, ap}
 use mathlib.Core.Bool.{Bool, true, false, cond, _&&_, _||_}
 use mathlib.Core.List.{List}
 use native.Mathlib.Numerals.{add-one}
@@ -46,6 +46,22 @@ tally-some sections flag (suc i) h = by-test (eqb (flagAt sections i) flag) (tal
     by-test true k h = omega arith
     by-test false k h = k h
 
+-- and it is of the kind
+tally-kind : (sections : List Section) (flag n : ℕ) → 0 < tally sections flag n .count → flagAt sections (tally sections flag n .last - 1) ≡ flag
+unfolding tally
+tally-kind sections flag zero h = absurd (omega arith)
+tally-kind sections flag (suc i) h = by-test (eqb (flagAt sections i) flag) refl (tally-kind sections flag i) h
+  where
+    by-test : (b : Bool) → eqb (flagAt sections i) flag ≡ b → (0 < tally sections flag i .count → flagAt sections (tally sections flag i .last - 1) ≡ flag)
+        → 0 < cond b (record { count = tally sections flag i .count + 1; last = i + 1 }) (tally sections flag i) .count
+        → flagAt sections (cond b (record { count = tally sections flag i .count + 1; last = i + 1 }) (tally sections flag i) .last - 1) ≡ flag
+    by-test true e k h = let q : i + 1 - 1 ≡ i = omega arith in rw q (eqb-true (flagAt sections i) flag e)
+    by-test false e k h = k h
+
+-- two kinds that are there have different numbers
+kinds-apart : (y : Summary) (a b : ℕ) → 0 < tallyOf y a .count → 0 < tallyOf y b .count → (a ≡ b → ⊥) → tallyOf y a .last ≡ tallyOf y b .last → ⊥
+kinds-apart y a b h k n e = n (sym (tally-kind (y .sections) a (y .count) h) ∙ ap (λ (i : ℕ). flagAt (y .sections) (i - 1)) e ∙ tally-kind (y .sections) b (y .count) k)
+
 -- a kind that is there once has its number among the sections
 pub one-known : (y : Summary) (flag : ℕ) → eqb (tallyOf y flag .count) 1 ≡ true → (0 < tallyOf y flag .last) × (tallyOf y flag .last ≤ y .count)
 one-known y flag e =
@@ -57,6 +73,8 @@ pub record Known (y : Summary) (t : Tallies) : Type 0 where
   pub «data» : (0 < t .«data» .last) × (t .«data» .last ≤ y .count)
   pub bss : (0 < t .bss .last) × (t .bss .last ≤ y .count)
   pub loader : (0 < t .loader .last) × (t .loader .last ≤ y .count)
+  -- neither data nor bss is the text section
+  pub apart : (t .«data» .last ≡ t .text .last → ⊥) × (t .bss .last ≡ t .text .last → ⊥)
 
 all-known : (y : Summary) → oneEach (talliesOf y) ≡ true → Known y (talliesOf y)
 unfolding oneEach talliesOf
@@ -67,11 +85,18 @@ all-known y e =
     let d = eqb (tallyOf y 0x1000 .count) 1 in
     let abc = and-first (a && b && c) d e in
     let ab = and-first (a && b) c abc in
+    let text = eqb-true (tallyOf y 0x0020 .count) 1 (and-first a b ab) in
+    let «data» = eqb-true (tallyOf y 0x0040 .count) 1 (and-second a b ab) in
+    let bss = eqb-true (tallyOf y 0x0080 .count) 1 (and-second (a && b) c abc) in
     record {
       text = one-known y 0x0020 (and-first a b ab);
       «data» = one-known y 0x0040 (and-second a b ab);
       bss = one-known y 0x0080 (and-second (a && b) c abc);
       loader = one-known y 0x1000 (and-second (a && b && c) d e);
+      apart = (
+        kinds-apart y 0x0040 0x0020 (omega (arith, «data»)) (omega (arith, text)) (λ z. omega arith),
+        kinds-apart y 0x0080 0x0020 (omega (arith, bss)) (omega (arith, text)) (λ z. omega arith),
+      );
     }
 
 pub each-known : (y : Summary) {t : Tallies} → t ≡ talliesOf y → oneEach t ≡ true → Known y t

@@ -1,2 +1,3 @@
--- What the contracts of `plan` cite.
+-- What the contracts of `plan` cite, and what its theorems say.
 pub mod Relocatable
+pub mod Follows

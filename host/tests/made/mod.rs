@@ -11,11 +11,14 @@ pub struct Entry {
     pub section: u16,
 }
 
-/// What a loader symbol is: defined at the start of text or of data, imported from import id 1, or imported from no file.
+/// What a loader symbol is: defined at the start of text, of data or of bss, imported from import id 1, or imported from
+/// no file.
 #[derive(Clone, Copy)]
+#[allow(dead_code)] // not every test has each
 pub enum Symbol {
     Text,
     Data,
+    Bss,
     Import,
     Deferred,
 }
@@ -26,6 +29,7 @@ impl Symbol {
         match self {
             Symbol::Text => (m.text_address, 1, 0, 0),
             Symbol::Data => (m.data_address, 2, 0, 0),
+            Symbol::Bss => (m.data_address + m.data_size, 3, 0, 0),
             Symbol::Import => (0, 0, 0x40, 1),
             Symbol::Deferred => (0, 0, 0x40, 0),
         }

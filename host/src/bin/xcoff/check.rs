@@ -3,6 +3,7 @@
 use crate::args::Arguments;
 use crate::compare::Beside;
 use crate::escape;
+use crate::explain;
 use crate::found::{Found, RecordText};
 use crate::load::{Loaded, Sheet};
 use crate::output::say;
@@ -77,5 +78,8 @@ pub fn check(args: &Arguments) -> Result<(), Problem> {
 fn differences(file: &Loaded, sheet: &Sheet, found: &Found) -> Result<Vec<String>, Problem> {
     // A move to the same plan changes nothing and judges everything.
     found.moved(file, sheet, sheet)?;
-    Ok(Beside::new(file, sheet, found)?.differences())
+    let beside = Beside::new(file, sheet, found)?;
+    let mut lines = beside.differences();
+    lines.extend(explain::lines(&beside)?);
+    Ok(lines)
 }

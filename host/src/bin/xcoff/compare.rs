@@ -28,7 +28,7 @@ struct Difference {
 
 /// Images as they were found, beside those of the plan that they should be for.
 pub struct Beside<'a> {
-    file: &'a Loaded<'a>,
+    pub file: &'a Loaded<'a>,
     pub sheet: &'a Sheet<'a>,
     pub found: &'a Found<'a>,
     pub fields: Fields,
@@ -126,6 +126,11 @@ fn bytes_of<'a>(pair: &'a Pair, f: &Relocation) -> &'a [u8] {
     &pair.image(f.image)[range_of(f)]
 }
 
+fn number_in(pair: &Pair, f: &Relocation) -> u64 {
+    let bytes = bytes_of(pair, f).iter();
+    bytes.fold(0, |number, &byte| number << 8 | u64::from(byte))
+}
+
 fn hex_of(bytes: &[u8]) -> String {
     bytes.iter().map(|byte| format!("{byte:02x}")).collect()
 }
@@ -163,6 +168,15 @@ impl<'a> Beside<'a> {
 
     pub fn fields_equal(&self) -> bool {
         self.wrong().count() == 0
+    }
+
+    /// The fields that differ, each with the number that was found and the plan's.
+    pub fn wrong_numbers(&self) -> Vec<(Relocation, u64, u64)> {
+        let numbers = |f: &Relocation| {
+            let [found, expected] = [&self.found.pair, &self.expected].map(|p| number_in(p, f));
+            (*f, found, expected)
+        };
+        self.wrong().0.iter().map(numbers).collect()
     }
 
     /// "N of M relocated fields are not those of SHEET".

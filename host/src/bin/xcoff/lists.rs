@@ -3,6 +3,7 @@
 use crate::args::Arguments;
 use crate::escape;
 use crate::files;
+use crate::follows::Selected;
 use crate::listing::{hex, names, number, word, Cell, Column, Listing};
 use crate::output::{print, refused_in};
 use crate::problem::Problem;
@@ -334,6 +335,7 @@ pub fn relocations(args: &Arguments) -> Result<(), Problem> {
     let module = refused_in(path, &file, xcoff::module(&file))?;
     let symbols = refused_in(path, &file, xcoff::loader_symbol_table(&file))?;
     let entries = refused_in(path, &file, xcoff::relocation_table(&file))?;
+    let selected = Selected::read(args, (path, &file), &symbols, &entries)?;
     let columns = vec![
         number("entry", module.relocations),
         hex("address", digits(module.format)),
@@ -351,7 +353,8 @@ pub fn relocations(args: &Arguments) -> Result<(), Problem> {
     print(|out| {
         let mut list = Listing::new(out, args.has("--json"));
         list.table("relocations", columns)?;
-        for (n, entry) in entries.iter().enumerate() {
+        let shown = |(_, entry): &(usize, &Relocation)| selected.has(entry);
+        for (n, entry) in entries.iter().enumerate().filter(shown) {
             relocation_row(&mut list, n as u64, entry, &symbols)?;
         }
         Ok(())

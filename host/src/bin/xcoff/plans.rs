@@ -3,6 +3,7 @@
 use crate::args::{self, Arguments};
 use crate::escape;
 use crate::files;
+use crate::imports::{takes_address, Choice};
 use crate::listing::{hex, number, word, Cell, Column, Listing};
 use crate::lists::use_word;
 use crate::load::{apart, Loaded, Sheet};
@@ -12,9 +13,6 @@ use std::ffi::OsStr;
 use std::io;
 use std::os::unix::ffi::OsStrExt;
 use xcoff::{LoaderRow, Plan};
-
-/// Imports that an error names before it only counts.
-const SHOWN: usize = 12;
 
 pub fn plan(args: &Arguments) -> Result<(), Problem> {
     let text = address(args, "--text")?;
@@ -56,11 +54,6 @@ pub fn plan(args: &Arguments) -> Result<(), Problem> {
     ))
 }
 
-/// Whether a plan's address of the symbol is used.
-fn takes_address(row: &LoaderRow) -> bool {
-    row.symbol.is_import() && !row.symbol.is_deferred()
-}
-
 fn address(args: &Arguments, option: &'static str) -> Result<Option<u64>, Problem> {
     let Some(value) = args.each(option).next() else {
         return Ok(None);
@@ -76,20 +69,15 @@ fn hex_value(args: &Arguments, option: &str, digits: &[u8]) -> Result<u64, Probl
     })
 }
 
-/// An address for an import, chosen by its name or its loader symbol index.
+/// An address for an import.
 struct Given {
     choice: Choice,
     shown: String,
     address: u64,
 }
 
-enum Choice {
-    Index(u64),
-    Name(Vec<u8>),
-}
-
 impl Given {
-    /// NAME=HEX or @INDEX=HEX. The name is written as listings show it; it may hold `=`, the address may not.
+    /// NAME=HEX or @INDEX=HEX. The name may hold `=`, the address may not.
     fn parse(args: &Arguments, value: &OsStr) -> Result<Given, Problem> {
         let bytes = value.as_bytes();
         let wrong = |why: &str| {
@@ -102,59 +90,12 @@ impl Given {
         let (name, digits) = (&bytes[..at], &bytes[at + 1..]);
         let shown = escape::argument(OsStr::from_bytes(name));
         let address = hex_value(args, &format!("--import {shown}"), digits)?;
-        let choice = match name.strip_prefix(b"@") {
-            Some(index) => {
-                let index = std::str::from_utf8(index).ok().and_then(|i| i.parse().ok());
-                Choice::Index(
-                    index.ok_or_else(|| wrong("after @ comes a loader symbol index in decimal"))?,
-                )
-            }
-            None => {
-                let name = escape::unescape(name);
-                Choice::Name(
-                    name.ok_or_else(|| wrong("a backslash in a name is \\\\ or begins \\xNN"))?,
-                )
-            }
-        };
+        let choice = Choice::parse(name).map_err(wrong)?;
         Ok(Given {
             choice,
             shown,
             address,
         })
-    }
-
-    /// The place in the list of addresses.
-    fn place(&self, symbols: &[LoaderRow]) -> Result<usize, String> {
-        let matches: Vec<&LoaderRow> = symbols
-            .iter()
-            .filter(|row| match &self.choice {
-                Choice::Index(index) => row.index == *index,
-                Choice::Name(name) => row.symbol.is_import() && row.name == name,
-            })
-            .collect();
-        let usable: Vec<&LoaderRow> = matches
-            .iter()
-            .copied()
-            .filter(|row| takes_address(row))
-            .collect();
-        match (usable.as_slice(), matches.first()) {
-            ([one], _) => Ok(one.index as usize - 3),
-            ([], Some(row)) if row.symbol.is_deferred() => Err(format!(
-                "@{} is a deferred import, which has no address in a plan",
-                row.index
-            )),
-            ([], Some(row)) => Err(format!("@{} is not an import", row.index)),
-            ([], None) => Err(format!(
-                "there is no such import; {}",
-                imports_shown(symbols)
-            )),
-            (many, _) => Err(format!(
-                "{} imports have this name: {}; choose one by its index, as in --import @{}=HEX",
-                many.len(),
-                indexes(many),
-                many[0].index
-            )),
-        }
     }
 }
 
@@ -170,7 +111,8 @@ fn place_imports(
             let text = format!("--import {}: {why}", import.shown);
             Problem::usage(args.command, text)
         };
-        let place = import.place(symbols).map_err(wrong)?;
+        let like = |index: u64| format!("--import @{index}=HEX");
+        let place = import.choice.index(symbols, like).map_err(wrong)? as usize - 3;
         if taken[place] {
             return Err(wrong(format!("@{} is given twice", place + 3)));
         }
@@ -178,32 +120,6 @@ fn place_imports(
         list[place] = import.address;
     }
     Ok(())
-}
-
-fn imports_shown(symbols: &[LoaderRow]) -> String {
-    let imports: Vec<&LoaderRow> = symbols.iter().filter(|row| takes_address(row)).collect();
-    let shown: Vec<String> = imports
-        .iter()
-        .take(SHOWN)
-        .map(|row| format!("@{} {}", row.index, escape::name(row.name)))
-        .collect();
-    match imports.len() {
-        0 => "the module has none".to_string(),
-        n if n > SHOWN => format!("the module has {} and {} more", shown.join(", "), n - SHOWN),
-        _ => format!("the module has {}", shown.join(", ")),
-    }
-}
-
-fn indexes(rows: &[&LoaderRow]) -> String {
-    let shown: Vec<String> = rows
-        .iter()
-        .take(SHOWN)
-        .map(|row| format!("@{}", row.index))
-        .collect();
-    match rows.len() {
-        n if n > SHOWN => format!("{} and {} more", shown.join(", "), n - SHOWN),
-        _ => shown.join(", "),
-    }
 }
 
 pub fn sheet(args: &Arguments) -> Result<(), Problem> {

@@ -94,12 +94,19 @@ pub static COMMANDS: [Command; 12] = [
         IMPORTS,
         lists::imports,
     ),
-    lister(
-        "relocations",
-        "the fields that a move changes",
-        RELOCATIONS,
-        lists::relocations,
-    ),
+    Command {
+        usage: "FILE [--follows text|data|IMPORT] [--json]",
+        options: &[
+            flag("--follows", &["text|data|IMPORT"]),
+            flag("--json", &[]),
+        ],
+        ..lister(
+            "relocations",
+            "the fields that a move changes",
+            RELOCATIONS,
+            lists::relocations,
+        )
+    },
     Command {
         name: "plan",
         usage: "FILE [--text HEX] [--data HEX] [--import NAME=HEX]... -o SHEET",
@@ -289,8 +296,17 @@ by is added or subtracted, the type, and the symbol (0 text, 1 data, 2 bss, from
 3 a loader symbol). Only these fields depend on a plan.
 
   xcoff relocations diag.xcoff
+  xcoff relocations diag.xcoff --follows puts
 
---json  one object a line
+--follows text    only the fields that the text address alone can change: every
+                  entry of each field with at least one that names text or a
+                  symbol defined in text
+--follows data    the same of the data address: data, bss or a symbol defined in
+                  either
+--follows IMPORT  the same of an import's address: its name as listings show it, or
+                  @INDEX where two imports have one name, or one is named text or
+                  data
+--json            one object a line
 ";
 
 const PLAN: &str = "\
@@ -348,9 +364,10 @@ them anew.
 const CHECK: &str = "\
 Compares images, or those that a file of S-records holds, with those of a plan.
 Exit status 0: they are exactly the same. Otherwise 1, with the first address where
-each image differs, and whether at least the relocated fields are the plan's. An
-image of the wrong length, or a record that is not as 'xcoff records' writes it, is
-refused.
+each image differs, and whether at least the relocated fields are the plan's. Where
+they are not, and another text address, data address or address of one import would
+make every one of them the plan's, it says so, with the address. An image of the
+wrong length, or a record that is not as 'xcoff records' writes it, is refused.
 
   xcoff check diag.xcoff card7.sheet card7.text card7.data --or card9.sheet
   xcoff check diag.xcoff card7.sheet --records card7.srec
