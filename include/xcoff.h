@@ -25,8 +25,9 @@
  *    1 SHORT     file or header area ends early                            0
  *    2 MAGIC     not 01DF (32 bits) or 01F7 (64 bits)                      0
  *    3 LIMIT     above a limit: 16,777,216 bytes of file; 32 sections;     0 file, 1 sections, 2 loader symbols or
- *                4,096 loader symbols or addresses in a sheet; 4,096       addresses, 3 relocation entries,
- *                relocation entries; 16,777,216 bytes of data image        4 data image
+ *                70,000 loader symbols or addresses in a sheet (4,096 in   addresses, 3 relocation entries,
+ *                one that begins 0002); 100,000 relocation entries;        4 data image
+ *                16,777,216 bytes of data image
  *    4 KIND      section flags not allowed                                 section
  *    5 BOUNDS    raw data, symbol or string table past the file's end      section, or 0
  *    6 ADDRESS   a section's addresses differ or pass the address space;   section
@@ -269,13 +270,26 @@ typedef struct xcoff_call_answer {
     uint64_t toc;
 } xcoff_call_answer;
 
+/*
+ * A sheet is a plan in a file, in one of two forms. Numbers are big-endian.
+ *
+ *   new     old
+ *   4       2      bytes: 2, the number of addresses that follow: a new sheet begins 00000002 hex, an old one 0002
+ *   8 + 8   8 + 8  the text address, the data address
+ *   4       2      bytes: k, the number of addresses in the list, at most 70,000, in an old sheet 4,096
+ *   8 * k   8 * k  the addresses
+ *
+ * So a new sheet has 24 + 8k bytes, an old one 20 + 8k. Both are read, the form by the first two bytes; new ones are
+ * written. Reading an old sheet and writing what was read gives its new form.
+ */
+
 /* What a sheet says of itself: how many places its list needs. */
 xcoff_sheet_answer xcoff_sheet_head(const uint8_t *sheet, size_t length);
 
 /* Reads a sheet into a list of exactly as many places as it has addresses; a refusal leaves the list as it was. */
 xcoff_sheet_answer xcoff_read_sheet(const uint8_t *sheet, size_t length, uint64_t *list, size_t places);
 
-/* Writes the sheet of a plan into a buffer of exactly 20 + 8 * places bytes; a refusal leaves the buffer as it was. */
+/* Writes the sheet of a plan into a buffer of exactly 24 + 8 * places bytes, in the new form; a refusal leaves the buffer as it was. */
 xcoff_verdict xcoff_write_sheet(uint64_t text, uint64_t data, const uint64_t *list, size_t places, uint8_t *sheet, size_t length);
 
 /*

@@ -82,6 +82,7 @@ impl Commands {
             assert!(status == module || module == 0 && status == 2, "{address}: status {status}");
         }
         self.as_sheet();
+        self.as_imports();
         self.as_image(input);
         self.as_records();
         if module == 0 {
@@ -92,6 +93,11 @@ impl Commands {
         }
         let names = fs::read_dir(".").unwrap().map(|entry| entry.unwrap().file_name());
         assert!(!names.into_iter().any(|name| name.to_string_lossy().ends_with(".tmp")));
+    }
+
+    /// The input as a file of addresses, which is taken apart before anything is judged.
+    fn as_imports(&self) {
+        assert!(self.run("plan fixed --imports m -o other.sheet") <= 2);
     }
 
     fn as_sheet(&self) {

@@ -459,7 +459,7 @@ static xcoff_module_answer module(xcoff_open_answer o)
     else if (m.number != 0)
         PROMISE(module_offset(o, m));
     if (m.number == 0) {
-        PROMISE(m.bits == o.bits && m.symbols <= 4096 && m.relocations <= 4096 && m.image <= 16777216);
+        PROMISE(m.bits == o.bits && m.symbols <= 70000 && m.relocations <= 100000 && m.image <= 16777216);
         PROMISE(m.text.size <= length && m.data.size <= length && m.image >= m.data.size);
         PROMISE(m.image == (m.bss.size == 0 && m.image == m.data.size ? m.image : m.bss.address - m.data.address + m.bss.size));
         PROMISE(m.entry.section <= o.sections && m.toc.section <= o.sections);
@@ -859,7 +859,7 @@ static void sheets(void)
     size_t n, k;
     step = "sheets";
     ANSWER(h);
-    PROMISE(h.count <= 4096 && h.offset == 0);
+    PROMISE(h.count <= (length > 1 && file[1] == 2 ? 4096 : 70000) && h.offset == 0);
     for (k = 0; k < 2; k++) {
         list = lend(list_area, 8 * (h.count + k));
         fill(list, 8 * (h.count + k));
@@ -873,26 +873,32 @@ static void sheets(void)
             untouched(list, 8 * (h.count + k));
     }
     if (h.number == 0) {
-        /* There is one sheet for a plan: written again, it is the input. */
+        /* There is one new sheet for a plan: written again, it is the input, or that with two zeros before each count. */
         list = lend(list_area, 8 * h.count);
         xcoff_read_sheet(file, length, list, h.count);
-        sheet = lend(sheet_area, 20 + 8 * h.count);
-        v = xcoff_write_sheet(h.text, h.data, list, h.count, sheet, 20 + 8 * h.count);
-        PROMISE(v.number == 0 && length == 20 + 8 * h.count && memcmp(sheet, file, length) == 0);
+        sheet = lend(sheet_area, 24 + 8 * h.count);
+        v = xcoff_write_sheet(h.text, h.data, list, h.count, sheet, 24 + 8 * h.count);
+        PROMISE(v.number == 0);
+        if (file[1] == 0)
+            PROMISE(length == 24 + 8 * h.count && memcmp(sheet, file, length) == 0);
+        else {
+            PROMISE(length == 20 + 8 * h.count && memcmp(sheet, "\0\0\0\2", 4) == 0 && memcmp(sheet + 2, file, 18) == 0);
+            PROMISE(memcmp(sheet + 20, "\0\0", 2) == 0 && memcmp(sheet + 22, file + 18, length - 18) == 0);
+        }
     }
     n = random_number() % 12;
     list = lend(list_area, 8 * n);
     for (k = 0; k < n; k++)
         list[k] = any_number();
-    sheet = lend(sheet_area, 20 + 8 * n + 1);
-    fill(sheet, 20 + 8 * n + 1);
-    v = xcoff_write_sheet(state, ~state, list, n, sheet, 20 + 8 * n + 1);
+    sheet = lend(sheet_area, 24 + 8 * n + 1);
+    fill(sheet, 24 + 8 * n + 1);
+    v = xcoff_write_sheet(state, ~state, list, n, sheet, 24 + 8 * n + 1);
     PROMISE(REFUSED(v, 20, 0, 0));
-    untouched(sheet, 20 + 8 * n + 1);
-    sheet = lend(sheet_area, 20 + 8 * n);
-    v = xcoff_write_sheet(state, ~state, list, n, sheet, 20 + 8 * n);
+    untouched(sheet, 24 + 8 * n + 1);
+    sheet = lend(sheet_area, 24 + 8 * n);
+    v = xcoff_write_sheet(state, ~state, list, n, sheet, 24 + 8 * n);
     again = lend(list2_area, 8 * n);
-    r = xcoff_read_sheet(sheet, 20 + 8 * n, again, n);
+    r = xcoff_read_sheet(sheet, 24 + 8 * n, again, n);
     PROMISE(v.number == 0 && r.number == 0 && r.text == state && r.data == ~state && r.count == n);
     PROMISE(memcmp(list, again, 8 * n) == 0);
 }

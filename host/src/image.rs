@@ -96,14 +96,16 @@ pub fn replay(file: &[u8], calls: &[Call], text: &mut [u8], data: &mut [u8]) -> 
     }
 }
 
-/// Reads a plan sheet's two addresses, and its list into exactly as many places. A refusal leaves the list as it was.
+/// Reads a plan sheet's two addresses, of either form, and its list into exactly as many places. A refusal leaves the list
+/// as it was.
 pub fn read_sheet_into(sheet: &[u8], list: &mut [u64]) -> Result<(u64, u64), Refusal> {
     let read = ffi::read_sheet(sheet, list);
     accepted(read.head)?;
     Ok((read.text, read.data))
 }
 
-/// Writes the sheet of a plan into a buffer of exactly its length. A refusal leaves the buffer as it was.
+/// Writes the sheet of a plan, in the new form, into a buffer of exactly [`sheet_length`] bytes. A refusal leaves the
+/// buffer as it was.
 pub fn write_sheet_into(
     text: u64,
     data: u64,
@@ -114,7 +116,8 @@ pub fn write_sheet_into(
     accepted(written)
 }
 
-/// Reads a plan sheet.
+/// Reads a plan sheet: a new one, which begins 00000002 hex and has at most 70,000 addresses, or an old one, which begins
+/// 0002 and has at most 4,096.
 pub fn read_sheet(sheet: &[u8]) -> Result<Plan, Refusal> {
     let answer = ffi::sheet_head(sheet);
     accepted(answer.head)?;
@@ -123,9 +126,14 @@ pub fn read_sheet(sheet: &[u8]) -> Result<Plan, Refusal> {
     Ok(Plan { text, data, list })
 }
 
-/// The sheet of a plan.
+/// Bytes of a new sheet with so many addresses in its list.
+pub fn sheet_length(places: usize) -> usize {
+    24 + 8 * places
+}
+
+/// The sheet of a plan, always in the new form.
 pub fn write_sheet(plan: &Plan) -> Result<Vec<u8>, Refusal> {
-    let mut sheet = vec![0; 20 + 8 * plan.list.len()];
+    let mut sheet = vec![0; sheet_length(plan.list.len())];
     write_sheet_into(plan.text, plan.data, &plan.list, &mut sheet)?;
     Ok(sheet)
 }

@@ -15,8 +15,8 @@ mod tables;
 
 pub use follows::{followed, PlanAddress};
 pub use image::{
-    build_images, move_images, read_sheet, read_sheet_into, replay, write_sheet, write_sheet_into,
-    Call, Plan, Reached, Replayed,
+    build_images, move_images, read_sheet, read_sheet_into, replay, sheet_length, write_sheet,
+    write_sheet_into, Call, Plan, Reached, Replayed,
 };
 pub use place::{places, FieldValue, Place, Value, What};
 pub use records::{read_records, records_length, write_records, write_records_into};

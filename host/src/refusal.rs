@@ -70,7 +70,7 @@ impl Refusal {
             18 => format!("the field of relocation entry {i} shares bytes with an earlier one that is not the same"),
             19 => plan(i),
             20 => format!("the {} is not exactly as long as needed", room(i)),
-            21 => "not a plan sheet: it is short, does not start with 0002, or is not as long as its count says".into(),
+            21 => "not a plan sheet: it is short, starts with neither 00000002 nor 0002, or is not as long as its count says".into(),
             22 => format!("line {i} of the record text is not the line that is written there, or is missing or one too many"),
             23 => "S-records are for XCOFF32 modules only".into(),
             24 => "the text and data images share an address".into(),
@@ -100,8 +100,8 @@ fn limit(item: u64) -> &'static str {
     match item {
         0 => "the file is longer than 16,777,216 bytes",
         1 => "there are more than 32 sections",
-        2 => "there are more than 4,096 loader symbols, or addresses in a sheet",
-        3 => "there are more than 4,096 relocation entries",
+        2 => "there are more than 70,000 loader symbols, or addresses in a sheet, in one that starts with 0002 more than 4,096",
+        3 => "there are more than 100,000 relocation entries",
         _ => "the data image is longer than 16,777,216 bytes",
     }
 }

@@ -26,7 +26,7 @@ fn a_plan_has_recorded_addresses_where_none_is_given() {
     let out = folder.done(&["plan", "exe-imports-32", "-o", "recorded"]);
     assert_eq!(
         out,
-        "wrote recorded (92 bytes): text 10000100, data 200001a0, 0 of 6 imports given; entry 200001d0, TOC 200001e0\n"
+        "wrote recorded (96 bytes): text 10000100, data 200001a0, 0 of 6 imports given; entry 200001d0, TOC 200001e0\n"
     );
     let list = [0, 0, 0, 0x2000_01d0, 0, 0, 0, 0, 0];
     assert_eq!(
@@ -37,7 +37,7 @@ fn a_plan_has_recorded_addresses_where_none_is_given() {
     let out = folder.done(&words.split(' ').collect::<Vec<_>>());
     assert_eq!(
         out,
-        "wrote given (92 bytes): text 30000000, data 40000000, 2 of 6 imports given; entry 40000030, TOC 40000040\n"
+        "wrote given (96 bytes): text 30000000, data 40000000, 2 of 6 imports given; entry 40000030, TOC 40000040\n"
     );
     let list = [0xabc, 0, 0, 0x2000_01d0, 0, 0, 7, 0, 0];
     assert_eq!(folder.read("given"), sheet(0x3000_0000, 0x4000_0000, &list));

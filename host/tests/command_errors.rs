@@ -217,7 +217,7 @@ fn an_ambiguous_import_is_chosen_by_its_index() {
     );
     assert!(!folder.path("s").exists());
     folder.done(&["plan", "twice", "--import", "@11=1", "-o", "s"]);
-    assert_eq!(folder.read("s")[20 + 8 * 8 + 7], 1);
+    assert_eq!(folder.read("s")[24 + 8 * 8 + 7], 1);
 }
 
 const TWICE: [(&str, &str); 13] = [
@@ -475,9 +475,9 @@ fn a_file_over_the_limit_is_judged_by_the_library() {
 }
 
 const NO_SHEET: &str = "refused 21 0 0: SHEET, not a plan sheet: \
-                        it is short, does not start with 0002, or is not as long as its count says\n";
-const MANY: &str =
-    "many: refused 3 2 0: LIMIT, there are more than 4,096 loader symbols, or addresses in a sheet\n";
+                        it is short, starts with neither 00000002 nor 0002, or is not as long as its count says\n";
+const MANY: &str = "refused 3 2 0: LIMIT, there are more than 70,000 loader symbols, \
+                    or addresses in a sheet, in one that starts with 0002 more than 4,096\n";
 const SHORT: &str = "short for exe-imports-32 (addresses: 8, loader symbols: 9): \
                      refused 20 2 0: ROOM, the list of addresses is not exactly as long as needed\n";
 const HIGH: &str = "high for exe-imports-32: refused 19 0 0: PLAN, \
@@ -488,14 +488,23 @@ const IMPORT: &str = "import for exe-imports-32: refused 19 4 0: PLAN, \
 #[test]
 fn a_refused_sheet_or_plan_is_named_with_its_number() {
     let folder = bench();
-    folder.write("cut", &folder.read("sheet")[..91]);
+    folder.write("cut", &folder.read("sheet")[..95]);
+    folder.write("three", &[&[0, 0, 0, 3][..], &[0; 20]].concat());
+    folder.write("one", &[&[0, 1][..], &[0; 22]].concat());
     folder.write("many", &[&[0, 2][..], &[0; 16], &[0x10, 0x01]].concat());
+    folder.write(
+        "more",
+        &[&[0, 0, 0, 2][..], &[0; 16], &[0, 1, 0x11, 0x71]].concat(),
+    );
     folder.write("short", &sheet(0, 0, &[0; 8]));
     folder.write("high", &sheet(0xffff_ff61, 0, &[0; 9]));
     folder.write("import", &sheet(0, 0, &[0, 1 << 32, 0, 0, 0, 0, 0, 0, 0]));
     let refused = |args: &[&str], text: &str| folder.fails(args, 1, &format!("xcoff: {text}"));
-    let cut = format!("cut: {NO_SHEET}");
-    for text in [&cut, MANY, SHORT, HIGH, IMPORT] {
+    let no_sheets = ["cut", "three", "one"].map(|name| format!("{name}: {NO_SHEET}"));
+    let too_many = ["many", "more"].map(|name| format!("{name}: {MANY}"));
+    let [cut, three, one] = no_sheets.each_ref();
+    let [many, more] = too_many.each_ref();
+    for text in [cut, three, one, many, more, SHORT, HIGH, IMPORT] {
         let name = text.split([' ', ':']).next().unwrap();
         refused(&["build", M, name, "-o", "t", "d"], text);
         refused(&["check", M, name, "text", "data"], text);
@@ -695,7 +704,7 @@ fn a_full_disk_or_closed_pipe_under_a_listing_is_3() {
 fn a_full_disk_under_the_line_that_tells_of_new_files_is_3() {
     let folder = bench();
     let runs = [
-        ("plan", "plan M -o new", "wrote new (92 bytes): text "),
+        ("plan", "plan M -o new", "wrote new (96 bytes): text "),
         (
             "build",
             "build M sheet -o new d",

@@ -601,7 +601,7 @@ fn no_byte_of_a_name_reaches_the_terminal_as_it_stands() {
     let shown = r"\x1b[2J\x20\\\x22\xff=1234";
     folder.done(&["plan", "odd", "--import", shown, "-o", "s"]);
     assert_eq!(
-        folder.read("s")[20 + 8 * 8..],
+        folder.read("s")[24 + 8 * 8..],
         [0, 0, 0, 0, 0, 0, 0x12, 0x34]
     );
 }

@@ -96,30 +96,170 @@ fn fields_are_the_same_or_share_no_byte() {
 }
 
 #[test]
-fn at_most_4096_relocation_entries() {
+fn at_most_100000_relocation_entries() {
     for format in FORMATS {
         let mut m = Module::new(format);
-        m.data_size = 4 * 4097;
-        let addresses: Vec<u64> = (0..4097).map(|i| m.data_address + 4 * i).collect();
-        m.entries = fields(2, &addresses[..4096]);
-        assert_eq!(xcoff::module(&m.bytes()).map(|m| m.relocations), Ok(4096));
+        m.data_size = 4 * 100_001;
+        let addresses: Vec<u64> = (0..100_001).map(|i| m.data_address + 4 * i).collect();
+        for accepted in [4_096, 4_097, 100_000] {
+            m.entries = fields(2, &addresses[..accepted]);
+            let relocations = xcoff::module(&m.bytes()).map(|m| m.relocations);
+            assert_eq!(relocations, Ok(accepted as u64));
+        }
         m.entries = fields(2, &addresses);
         assert_eq!(judged(&m), refused_at(3, 3, loader_at(&m)));
     }
 }
 
 #[test]
-fn at_most_4096_loader_symbols() {
+fn at_most_70000_loader_symbols() {
     for format in FORMATS {
         let mut m = Module::new(format);
-        m.symbols = vec![Symbol::Data; 4096];
-        let file = m.bytes();
-        assert_eq!(xcoff::module(&file).map(|m| m.symbols), Ok(4096));
-        assert_eq!(xcoff::loader_symbol_name(&file, 4098), Ok(&b"s"[..]));
-        assert_eq!(xcoff::loader_symbol(&file, 4099).err(), refused(8, 4099));
-        m.symbols = vec![Symbol::Data; 4097];
+        for accepted in [4_096, 4_097, 70_000] {
+            m.symbols = vec![Symbol::Data; accepted as usize];
+            let file = m.bytes();
+            assert_eq!(xcoff::module(&file).map(|m| m.symbols), Ok(accepted));
+            assert_eq!(
+                xcoff::loader_symbol_name(&file, accepted + 2),
+                Ok(&b"s"[..])
+            );
+            let last = xcoff::loader_symbol(&file, accepted + 3).err();
+            assert_eq!(last, refused(8, accepted + 3));
+        }
+        m.symbols = vec![Symbol::Data; 70_001];
         assert_eq!(judged(&m), refused_at(3, 2, loader_at(&m)));
     }
+}
+
+/// Both tables at once, every import used, built and moved.
+#[test]
+fn a_module_at_both_limits_is_built_and_moved() {
+    for format in FORMATS {
+        let mut m = Module::new(format);
+        m.data_size = 4 * 100_000;
+        m.symbols = vec![Symbol::Import; 70_000];
+        let addresses: Vec<u64> = (0..100_000).map(|i| m.data_address + 4 * i).collect();
+        m.entries = fields(2, &addresses);
+        for (i, e) in m.entries.iter_mut().enumerate() {
+            e.symbol = 3 + i as u32 % 70_000;
+        }
+        let file = m.bytes();
+        let plan = |step: u64| Plan {
+            text: 0x1000,
+            data: 0x10_0000,
+            list: (0..70_000).map(|i| step * i).collect(),
+        };
+        let (mut text, mut data) = (vec![1; 0x100], vec![1; 400_000]);
+        let words = |data: &[u8], step: u32| {
+            let mut words = data.chunks_exact(4).zip(0..);
+            words.all(|(b, i)| b == (step * (i % 70_000)).to_be_bytes())
+        };
+        xcoff::build_images(&file, &plan(3), &mut text, &mut data).unwrap();
+        assert!(words(&data, 3));
+        xcoff::move_images(&file, &plan(3), &plan(61_000), &mut text, &mut data).unwrap();
+        assert!(words(&data, 61_000));
+    }
+}
+
+// ---- sheets, of both forms
+
+/// The head of a sheet: its first count, two addresses, and the count of the list, each count in so many bytes.
+fn sheet_start(width: usize, first: u32, count: u32) -> Vec<u8> {
+    let number = |n: u32| n.to_be_bytes()[4 - width..].to_vec();
+    [number(first), vec![0xA5; 16], number(count)].concat()
+}
+
+/// The sheet with so many addresses, all of them 5A5A5A5A5A5A5A5A.
+fn sheet(width: usize, count: u32) -> Vec<u8> {
+    let mut sheet = sheet_start(width, 2, count);
+    sheet.resize(sheet.len() + 8 * count as usize, 0x5A);
+    sheet
+}
+
+fn sheet_refused(sheet: &[u8]) -> Option<Refusal> {
+    let mut list = vec![7; 3];
+    let into = xcoff::read_sheet_into(sheet, &mut list).err();
+    assert!(into.is_some() && list == [7; 3]);
+    let read = xcoff::read_sheet(sheet).err();
+    // The list of three does not fit: every other refusal comes before.
+    assert!(into == read || into == refused(20, 2));
+    read
+}
+
+#[test]
+fn a_new_sheet_is_read_and_written_back() {
+    for count in [0, 1, 4_096, 4_097, 65_535, 65_536, 70_000] {
+        let sheet = sheet(4, count);
+        assert_eq!(sheet.len(), 24 + 8 * count as usize);
+        let plan = xcoff::read_sheet(&sheet).unwrap();
+        assert_eq!(plan.text, 0xA5A5_A5A5_A5A5_A5A5);
+        assert_eq!(plan.list, vec![0x5A5A_5A5A_5A5A_5A5A; count as usize]);
+        assert!(xcoff::write_sheet(&plan).unwrap() == sheet);
+    }
+    assert_eq!(sheet_refused(&sheet(4, 70_001)), refused(3, 2));
+    let plan = Plan {
+        text: 0,
+        data: 0,
+        list: vec![0; 70_001],
+    };
+    assert_eq!(xcoff::write_sheet(&plan).err(), refused(3, 2));
+}
+
+#[test]
+fn an_old_sheet_is_read_and_written_in_the_new_form() {
+    for count in [0, 1, 4_095, 4_096] {
+        let old = sheet(2, count);
+        assert_eq!(old.len(), 20 + 8 * count as usize);
+        let plan = xcoff::read_sheet(&old).unwrap();
+        assert_eq!(plan.list.len(), count as usize);
+        let new = xcoff::write_sheet(&plan).unwrap();
+        assert!(new == sheet(4, count));
+        assert!(new == [&[0, 0], &old[..18], &[0, 0], &old[18..]].concat());
+    }
+    assert_eq!(sheet_refused(&sheet(2, 4_097)), refused(3, 2));
+    assert_eq!(sheet_refused(&sheet(2, 65_535)), refused(3, 2));
+}
+
+#[test]
+fn what_is_no_sheet_of_either_form() {
+    let whole = sheet_start(4, 2, 0);
+    for length in 0..24 {
+        assert_eq!(sheet_refused(&whole[..length]), refused(21, 0), "{length}");
+    }
+    assert_eq!(xcoff::read_sheet(&whole).map(|p| p.list.len()), Ok(0));
+    assert_eq!(sheet_refused(&[&whole[..], &[0]].concat()), refused(21, 0));
+    for first in [0, 1, 3, 0x0001_0002, 0x0100_0002] {
+        let read = sheet_refused(&sheet_start(4, first, 0));
+        assert_eq!(read, refused(21, 0), "{first:x}");
+    }
+    for first in [1, 3, 0x0200, 0xFFFF] {
+        let read = sheet_refused(&sheet_start(2, first, 0));
+        assert_eq!(read, refused(21, 0), "{first:x}");
+    }
+    for length in 0..20 {
+        let old = sheet_refused(&sheet_start(2, 2, 0)[..length]);
+        assert_eq!(old, refused(21, 0), "{length}");
+    }
+    // The limit comes before the length, and the first count before the limit.
+    assert_eq!(sheet_refused(&sheet_start(4, 2, 70_001)), refused(3, 2));
+    assert_eq!(sheet_refused(&sheet_start(4, 2, u32::MAX)), refused(3, 2));
+    assert_eq!(sheet_refused(&sheet_start(4, 2, 70_000)), refused(21, 0));
+    assert_eq!(sheet_refused(&sheet_start(4, 3, 70_001)), refused(21, 0));
+    assert_eq!(sheet_refused(&sheet_start(2, 2, 4_097)), refused(3, 2));
+    assert_eq!(sheet_refused(&sheet_start(2, 2, 4_096)), refused(21, 0));
+}
+
+#[test]
+fn a_sheet_is_written_into_exactly_its_length() {
+    let list = [1, 2, 3];
+    for length in [0, 20 + 24, 24 + 23, 24 + 25] {
+        let mut room = vec![9; length];
+        let written = xcoff::write_sheet_into(1, 2, &list, &mut room).err();
+        assert_eq!(written, refused(20, 0), "{length}");
+        assert!(room.iter().all(|&b| b == 9));
+    }
+    let mut room = vec![9; xcoff::sheet_length(3)];
+    assert_eq!(xcoff::write_sheet_into(1, 2, &list, &mut room), Ok(()));
 }
 
 #[test]

@@ -236,10 +236,10 @@ fn a_csect_with_its_auxiliary_entry() {
 fn the_loader_header_with_the_fields_of_each_item() {
     let cases: [(Head, u64, u64, &[(&str, Head)]); 6] = [
         (Head::Version, 3, 1, &[("l_version", Head::Version)]),
-        (Head::Symbols, 4_097, 2, &[("l_nsyms", Head::Symbols)]),
+        (Head::Symbols, 70_001, 2, &[("l_nsyms", Head::Symbols)]),
         (
             Head::Relocations,
-            4_097,
+            100_001,
             3,
             &[("l_nreloc", Head::Relocations)],
         ),

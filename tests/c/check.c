@@ -118,8 +118,8 @@ static const struct damage {
     {8, 4, 0xff, 5, 0, 0},                  /* the symbol table */
     {20 + 34, 2, 0, 13, 2, 0},              /* the auxiliary header's section of text */
     {512 + 3, 1, 3, 15, 1, 512},            /* version of the loader section */
-    {512 + 6, 1, 0x10, 3, 2, 512},          /* its symbols */
-    {512 + 10, 1, 0x10, 3, 3, 512},         /* its relocation entries */
+    {512 + 5, 1, 2, 3, 2, 512},             /* its symbols */
+    {512 + 9, 1, 2, 3, 3, 512},             /* its relocation entries */
     {512 + 12, 1, 0x7f, 15, 4, 512},        /* its import ids */
     {544 + 2 * 24 + 14, 1, 4, 16, 5, 592},  /* type of loader symbol 5 */
     {760 + 3 * 12 + 9, 1, 2, 17, 3, 796},   /* type of entry 3 */
@@ -187,7 +187,7 @@ static void list_of_calls(const uint64_t *list, const uint8_t *built_text, const
 /* Built at the recorded addresses, moved by 1000 hex, and both at once by a list of calls; then the plan's sheet. */
 static void images(void)
 {
-    static uint8_t text[0xa0], data[0xa0], sheet[20 + 8 * 9];
+    static uint8_t text[0xa0], data[0xa0], sheet[24 + 8 * 9], old[20 + 8 * 9];
     uint64_t list[9], back[9];
     xcoff_call_answer b, m;
     xcoff_sheet_answer s;
@@ -212,6 +212,14 @@ static void images(void)
     EXPECT(ACCEPTED(s) && memcmp(list, back, sizeof list) == 0);
     s = xcoff_read_sheet(sheet, sizeof sheet, back, 8);
     EXPECT(REFUSED(s, 20, 2, 0));
+
+    /* The old form has two bytes less in each count. */
+    memcpy(old, sheet + 2, 18);
+    memcpy(old + 18, sheet + 22, sizeof old - 18);
+    memset(back, 0, sizeof back);
+    s = xcoff_read_sheet(old, sizeof old, back, 9);
+    EXPECT(ACCEPTED(s) && s.text == 1 && s.data == 2 && memcmp(list, back, sizeof list) == 0);
+    EXPECT(xcoff_write_sheet(1, 2, list, 9, old, sizeof old).number == 20);
 }
 
 static uint8_t image_text[0xa0], image_data[0xa0], written[805];

@@ -69,6 +69,16 @@ def verdict(corpus, line):
     return name, "%s loadable %s" % (head, " ".join(good.groups()))
 
 
+def within_new_limits(name, verdicts):
+    """The verdicts are of document 01, which refuses the four modules above 4,096; request 10 accepts them. Each was made like
+    its neighbour with 4,096: with one import, which one entry uses, or with one entry more."""
+    head, counts = verdicts[name.replace("4097", "4096")].split(" loadable ")
+    counts = [int(n) for n in counts.split()]
+    for place in (0, 1, 4) if "lsym" in name else (4,):
+        counts[place] += 1
+    return "%s loadable %s" % (head, " ".join(map(str, counts)))
+
+
 # ---- listings
 
 def parts(listing):
@@ -323,6 +333,7 @@ def facts_of(listing):
 def write_verdicts(corpus):
     with open(os.path.join(corpus, "verdicts.txt"), encoding="latin-1") as f:
         verdicts = dict(verdict(corpus, line) for line in f if line.strip())
+    verdicts.update((name, within_new_limits(name, verdicts)) for name in verdicts if "4097" in name)
     with open(os.path.join(HERE, "verdicts.txt"), "w", encoding="latin-1") as f:
         for name in names():
             if name in verdicts:

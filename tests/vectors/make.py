@@ -232,15 +232,44 @@ def has_new_type(case, entry):
     return entry[16] in (2, 107, 111) and (case["op"] != "csect" or entry[14] >> 4 & 7 > 4)
 
 
+def loader_counts(data):
+    """How many symbols and relocation entries each loader section says it has."""
+    bits = {b"\x01\xdf": 32, b"\x01\xf7": 64}.get(data[:2])
+    if bits is None or len(data) < 24:
+        return
+    number = lambda at, width: int.from_bytes(data[at:at + width], "big")
+    start, length, place, flags = (20, 40, 20, 36) if bits == 32 else (24, 72, 32, 64)
+    for n in range(number(2, 2)):
+        header = start + number(16, 2) + length * n
+        if number(header + flags, 4) == 0x1000:
+            loader = number(header + place, bits // 8)
+            yield number(loader + 4, 4), number(loader + 8, 4)
+
+
+def is_within_old_limits(case):
+    """Whether both the limits of document 01 and those of request 10 allow or refuse the case: a sheet that does not begin
+    0000; a buffer that neither form's sheet fits, for a plan within the old limit; tables that are not between the limits."""
+    between = lambda count, limit: 4096 < count <= limit
+    if case["op"] == "sheet_read":
+        return not case["sheet"].startswith("0000")
+    if case["op"] == "sheet_write":
+        count, room = len(case["plan"]["imports"]), len(case["buffers"]["sheet"]) // 2
+        return not between(count, 70000) and room - 8 * count not in (20, 24)
+    if case["op"] in ("open", "section", "symbol", "walk", "csect", "list"):
+        return True
+    return not any(between(symbols, 70000) or between(entries, 100000) for symbols, entries in loader_counts(file_of(case)))
+
+
 def stands(case):
     """Whether no request that came after the case can change its answer. Request 1: names of debug classes. Request 9: types
-    that have a visibility."""
+    that have a visibility. Request 10: sheets and limits."""
     data = file_of(case)
     bits, table = symbol_table(data)
     entries = entries_of(case, table)
     names_stand = 1 in case["requests"] or not any(has_debug_name(bits, entry) for entry in entries)
     types_stand = 9 in case["requests"] or not has_version_2(data) or not any(has_new_type(case, entry) for entry in entries)
-    return names_stand and types_stand
+    limits_stand = 10 in case["requests"] or is_within_old_limits(case)
+    return names_stand and types_stand and limits_stand
 
 
 def file_of(case):

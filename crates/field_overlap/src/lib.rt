@@ -1,10 +1,11 @@
-// Fields that overlap: the rule of OVERLAP, and one pass that shows of fields in ascending order that no two overlap.
+// Fields that overlap: the rule of OVERLAP, and two passes that show that no two overlap: of aligned fields, and of fields in ascending order.
 ghost use mathlib.Core.Path.{_≡_};
 ghost use mathlib.Core.Bool.{true};
 ghost use Prim.Native.Nat.{_≤_};
 ghost use Rattle.format.specs.Limit.{fileLimit};
 ghost use Rattle.relocation.specs.Relocation.{placeAt};
 ghost use Rattle.field_overlap.specs.Overlap.{First, Readable};
+ghost use Rattle.field_overlap.specs.Aligned.{Aligned};
 ghost use Rattle.field_overlap.specs.Ascending.{extentOf, Follows, StepOut};
 use format::Format;
 use loader_header::LoaderTables;
@@ -27,6 +28,38 @@ pub struct LastFields {
 struct StepAnswer {
     follows: bool,
     last: LastFields,
+}
+
+// Whether a field has the width, and stands at a multiple of it.
+fn is_aligned(e: FieldPlace, wide: bool) -> bool
+    ensures { λ r. ⌜ (r ≡ true → Aligned wide e) ⌝ }
+{
+    if wide {
+        if e.wide {
+            return e.offset % 8 == 0;
+        }
+        return false;
+    }
+    if e.wide {
+        return false;
+    }
+    e.offset % 4 == 0
+}
+
+// Whether each of `n` entries has a field of the width at a multiple of it. Then no two overlap; otherwise two may.
+pub fn are_aligned(file: &[u8], f: Format, p: Parts, t: LoaderTables, wide: bool, n: u64) -> bool
+    requires { ⌜ Readable (now file) f p t n ⌝ }
+    ensures { λ r. ⌜ (r ≡ true → First (placeAt (now (file .entry)) f p t) n n) ⌝ }
+{
+    let mut i = 0;
+    while i < n {
+        let e = relocation::place_at(file, f, p, t, i);
+        if !is_aligned(e, wide) {
+            return false;
+        }
+        i += 1;
+    }
+    true
 }
 
 fn extent_of(e: FieldPlace) -> Extent

@@ -59,14 +59,14 @@ fn put_sections(s: &mut [u8], address: u32, text: u32, start: u32, length: u32) 
 }
 
 // The header of the loader section at `start`, with `n` relocation entries.
-fn put_loader(s: &mut [u8], start: u16, n: u16) {
+fn put_loader(s: &mut [u8], start: u16, n: u32) {
     let at = start as usize;
     put4(s, at, 1);
-    put4(s, at + 8, n as u32);
+    put4(s, at + 8, n);
 }
 
 // Relocation entry `i` of that section: a 32-bit field at `address`, text added.
-fn put_entry(s: &mut [u8], start: u16, i: u16, address: u32) {
+fn put_entry(s: &mut [u8], start: u16, i: u32, address: u32) {
     let at = 32 + start as usize + 12 * i as usize;
     put4(s, at, address);
     put4(s, at + 4, 0);
@@ -112,17 +112,22 @@ fn try_fields(first: u32, second: u32) {
 }
 
 // `n` entries on the text section's first fields, the same field twice where it has fewer.
-fn put_entries(s: &mut [u8], start: u16, n: u16) {
-    let mut i: u16 = 0;
+fn put_entries(s: &mut [u8], start: u16, n: u32) {
+    let mut i: u32 = 0;
     while i < n {
-        put_entry(s, start, i, i as u32 % 64 * 4);
+        put_entry(s, start, i, i % 64 * 4);
         i += 1;
     }
 }
 
+// Room for the module of 100,001 entries.
+fn space() -> [u8; 1200552] {
+    [0; 1200552]
+}
+
 // A module with `n` entries, whose loader section has `length` bytes.
-fn try_entries(n: u16, length: u32) {
-    let mut s = io::large_buffer();
+fn try_entries(n: u32, length: u32) {
+    let mut s = space();
     put_module(&mut s, 0, 0x100, 508, length);
     put_loader(&mut s, 508, n);
     put_entries(&mut s, 508, n);
@@ -175,8 +180,8 @@ fn main() {
     try_sections(32);
     io::write_all(STDOUT_FILENO, b"33 sections: ");
     try_sections(33);
-    io::write_all(STDOUT_FILENO, b"4,096 entries: ");
-    try_entries(4096, 49184);
-    io::write_all(STDOUT_FILENO, b"4,097 entries: ");
-    try_entries(4097, 49196);
+    io::write_all(STDOUT_FILENO, b"100,000 entries: ");
+    try_entries(100000, 1200032);
+    io::write_all(STDOUT_FILENO, b"100,001 entries: ");
+    try_entries(100001, 1200044);
 }

@@ -13,11 +13,14 @@ pub const FILE_LIMIT: usize = 16777216;
 
 pub const SECTION_LIMIT: u64 = 32;
 
-pub const LOADER_SYMBOL_LIMIT: u64 = 4096;
+pub const LOADER_SYMBOL_LIMIT: u64 = 70000;
 
-pub const SHEET_LIST_LIMIT: u64 = 4096;
+pub const SHEET_LIST_LIMIT: u64 = 70000;
 
-pub const RELOCATION_LIMIT: u64 = 4096;
+// Of a sheet in the old form.
+pub const OLD_SHEET_LIST_LIMIT: u64 = 4096;
+
+pub const RELOCATION_LIMIT: u64 = 100000;
 
 pub const DATA_IMAGE_LIMIT: u64 = 16777216;
 

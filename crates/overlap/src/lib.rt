@@ -1,4 +1,4 @@
-// Overlapping fields: none where the entries ascend; otherwise found in one pass over them for each window of a section that has a field.
+// Overlapping fields: none where the fields are aligned or ascend; otherwise found in one pass over the entries for each window of a section that has a field.
 ghost use mathlib.Core.Path.{_≡_};
 ghost use Prim.Native.Nat.{_+_, _≤_, _<_};
 ghost use lib.ListN.{length};
@@ -201,11 +201,17 @@ fn sweep_windows(file: &[u8], f: Format, p: Parts, t: LoaderTables, n: u64) -> u
 }
 
 // The first of `n` entries whose field meets an earlier one that is not the same field, or `n`.
-// Entries in ascending order, as linkers write them, need no window.
+// Aligned fields, as nearly all linkers write them, and fields in ascending order need no window.
 pub fn first_overlap(file: &[u8], f: Format, p: Parts, t: LoaderTables, n: u64) -> u64
     requires { ⌜ Readable (now file) f p t n ⌝ }
     ensures { λ r. ⌜ First (placeAt (now (file .entry)) f p t) n r ⌝ }
 {
+    if field_overlap::are_aligned(file, f, p, t, false, n) {
+        return n;
+    }
+    if field_overlap::are_aligned(file, f, p, t, true, n) {
+        return n;
+    }
     if field_overlap::are_ascending(file, f, p, t, n) {
         return n;
     }

@@ -11,7 +11,8 @@ use Rattle.word.specs.Number.{valueOf, fieldAt}
 use Rattle.update.specs.Update.{bytesOfNumber, putField, Bytes}
 use Rattle.update.proofs.Laws.{length-bytes, value-bytes, put-field}
 use Rattle.update.proofs.Stores.{sets-append, part-stored, sets-whole}
-use Rattle.sheet.specs.Sheet.{headLength, sheetLength, numbersFrom, addressBytes, sheetBytes}
+use Rattle.sheet.specs.Sheet.{countWidth, headLength, sheetLength, numbersFrom, addressBytes, sheetBytes}
+use Rattle.sheet.specs.declared.SheetForm.{SheetForm}
 
 -- ---- lengths
 
@@ -29,9 +30,9 @@ length-addresses (a ∷ list) =
     rw (length-append (bytesOfNumber 8 a) (addressBytes list), length-bytes 8 a, length-addresses list) (omega arith)
 
 -- a sheet of k addresses has the length that k needs
-pub length-sheet : (w text dat : ℕ) (list : List ℕ) → length (sheetBytes w text dat list) ≡ sheetLength w (length list)
+pub length-sheet : (f : SheetForm) (text dat : ℕ) (list : List ℕ) → length (sheetBytes f text dat list) ≡ sheetLength f (length list)
 unfolding sheetBytes
-length-sheet w text dat list =
+length-sheet f text dat list =
     simp (length-append, length-bytes, length-addresses) (omega arith)
 
 -- ---- the loops
@@ -68,9 +69,10 @@ unfolding addressBytes
 write-end s list off i h = rw (drop-of-length-le list h) refl
 
 -- the four numbers of the head and the addresses after them are the sheet
-pub sheet-written : (w text dat : ℕ) (list s : List ℕ) → length s ≡ sheetLength w (length list) → sets (putField w (w + 8 + 8) (length list) (putField 8 (w + 8) dat (putField 8 w text (putField w 0 2 s)))) (headLength w) (addressBytes list) ≡ sheetBytes w text dat list
+pub sheet-written : (f : SheetForm) (text dat : ℕ) (list s : List ℕ) → length s ≡ sheetLength f (length list) → sets (putField (countWidth f) (countWidth f + 8 + 8) (length list) (putField 8 (countWidth f + 8) dat (putField 8 (countWidth f) text (putField (countWidth f) 0 2 s)))) (headLength f) (addressBytes list) ≡ sheetBytes f text dat list
 unfolding sheetBytes
-sheet-written w text dat list s h =
+sheet-written f text dat list s h =
+    let w : ℕ = countWidth f in
     let first = putField w 0 2 s in
     let second = putField 8 w text first in
     let third = putField 8 (w + 8) dat second in
@@ -83,7 +85,7 @@ sheet-written w text dat list s h =
     ∙ put-then 8 w text first fromData
     ∙ ap (λ (k : ℕ). sets first k fromText) (sym (zero-add w))
     ∙ put-then w 0 2 s fromText
-    ∙ sets-whole s (bytesOfNumber w 2 ++ fromText) (length-sheet w text dat list ∙ sym h)
+    ∙ sets-whole s (bytesOfNumber w 2 ++ fromText) (length-sheet f text dat list ∙ sym h)
 
 -- ---- numbers and bytes
 

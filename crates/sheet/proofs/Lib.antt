@@ -2,4 +2,5 @@
 
 pub mod Addresses
 pub mod Answers
+pub mod Forms
 pub mod Theorems

@@ -1,9 +1,9 @@
--- The plan sheet. w is how many bytes its two counts take: 2 here.
+-- The plan sheet, once over its form: an old one has its two counts in 2 bytes, a new one in 4.
 use Prim.Native.Nat.{ℕ, zero, suc, _+_, _*_}
-use mathlib.Core.Bool.{not}
+use mathlib.Core.Bool.{not, cond}
 use mathlib.Core.List.{List, [], _∷_, _++_}
 use lib.Dec.{eqb, ltb}
-use lib.ListN.{length}
+use lib.ListN.{length, take, drop}
 use Rattle.word.specs.Number.{fieldAt}
 use Rattle.update.specs.Update.{bytesOfNumber}
 use Rattle.refusal.specs.declared.LimitItem.the-variants.{SheetList}
@@ -14,28 +14,60 @@ use Rattle.refusal.specs.declared.Verdict.the-variants as verdict
 use Rattle.refusal.specs.Order.{_orElse_, refuseIf, byVerdict, ifAccepted}
 use Rattle.refusal.specs.declared.Head.{Head}
 use Rattle.refusal.specs.Refusal.{acceptedHead, refusedHead}
+use Rattle.sheet.specs.declared.FormAnswer.{FormAnswer}
+use Rattle.sheet.specs.declared.FormAnswer.the-variants.{Known, Unknown}
+use Rattle.sheet.specs.declared.SheetForm.{SheetForm}
+use Rattle.sheet.specs.declared.SheetForm.the-variants.{Old, New}
 use Rattle.sheet.specs.declared.SheetAnswer.{SheetAnswer}
 use Rattle.sheet.specs.declared.SheetAnswer.the-variants.{Found, Refused}
 use Rattle.sheet.specs.declared.SheetHead.{SheetHead}
 use Rattle.sheet.specs.declared.SheetReport.{SheetReport}
-use Rattle.format.specs.Limit.{sheetListLimit}
+use Rattle.format.specs.Limit.{oldSheetListLimit, sheetListLimit}
+
+-- ---- the two forms
+
+-- the bytes of each of the two counts
+abbrev pub countWidth : SheetForm → ℕ
+countWidth Old = 2
+countWidth New = 4
+
+-- the most addresses that the list has
+abbrev pub listLimit : SheetForm → ℕ
+listLimit Old = oldSheetListLimit
+listLimit New = sheetListLimit
+
+-- an old sheet begins 0002, a new one 0000
+unfoldable pub formBy : ℕ → FormAnswer
+formBy v = cond (eqb v 2) (Known Old) (cond (eqb v 0) (Known New) Unknown)
+
+unfoldable pub formOf : List ℕ → FormAnswer
+formOf s = cond (ltb (length s) 2) Unknown (formBy (fieldAt 2 0 s))
+
+-- what a sheet's form gives, or what is given where it has none
+abbrev pub byForm : {A : Type 0} → FormAnswer → (SheetForm → A) → A → A
+byForm (Known f) g a = g f
+byForm Unknown g a = a
+
+-- ---- the parts of a sheet
 
 -- the bytes before the list
-abbrev pub headLength : ℕ → ℕ
-headLength w = w + 8 + 8 + w
+abbrev pub headLength : SheetForm → ℕ
+headLength f = countWidth f + 8 + 8 + countWidth f
 
-abbrev pub sheetLength : ℕ → ℕ → ℕ
-sheetLength w k = headLength w + k * 8
+abbrev pub sheetLength : SheetForm → ℕ → ℕ
+sheetLength f k = headLength f + k * 8
 
 -- count 2, the text and data addresses, count k
-abbrev pub firstCount : ℕ → List ℕ → ℕ
-firstCount w s = fieldAt w 0 s
+abbrev pub firstCount : SheetForm → List ℕ → ℕ
+firstCount f s = fieldAt (countWidth f) 0 s
 
 abbrev pub headBy : ℕ → ℕ → ℕ → SheetHead
 headBy text dat k = record { text = record { 0 = text }; «data» = record { 0 = dat }; count = k }
 
-unfoldable pub headOf : ℕ → List ℕ → SheetHead
-headOf w s = headBy (fieldAt 8 w s) (fieldAt 8 (w + 8) s) (fieldAt w (w + 8 + 8) s)
+unfoldable pub headOf : SheetForm → List ℕ → SheetHead
+headOf f s =
+    let w = countWidth f in
+    headBy (fieldAt 8 w s) (fieldAt 8 (w + 8) s) (fieldAt w (w + 8 + 8) s)
 
 -- n numbers of 8 bytes from off
 unfoldable pub numbersFrom : List ℕ → ℕ → ℕ → List ℕ
@@ -43,35 +75,8 @@ numbersFrom s off zero = []
 numbersFrom s off (suc n) = fieldAt 8 off s ∷ numbersFrom s (off + 8) n
 
 -- the k addresses
-unfoldable pub addressesOf : ℕ → List ℕ → List ℕ
-addressesOf w s = numbersFrom s (headLength w) (headOf w s .count)
-
--- SHEET, LIMIT 2, SHEET
-unfoldable pub sheetCheck : ℕ → List ℕ → Verdict
-sheetCheck w s =
-    refuseIf (ltb (length s) (headLength w)) refusal.Sheet
-    orElse refuseIf (not (eqb (firstCount w s) 2)) refusal.Sheet
-    orElse refuseIf (ltb sheetListLimit (headOf w s .count)) (refusal.Limit SheetList)
-    orElse refuseIf (not (eqb (length s) (sheetLength w (headOf w s .count)))) refusal.Sheet
-
--- ROOM 2: the lent list has exactly k places
-abbrev pub roomCheck : ℕ → SheetHead → Verdict
-roomCheck places h = refuseIf (not (eqb places (h .count))) (refusal.Room AddressList)
-
-unfoldable pub readCheck : ℕ → List ℕ → ℕ → Verdict
-readCheck w s places = sheetCheck w s orElse roomCheck places (headOf w s)
-
--- what a sheet says of itself: its addresses and how many places its list needs
-unfoldable pub headAnswer : ℕ → List ℕ → SheetAnswer
-headAnswer w s = byVerdict (sheetCheck w s) (Found (headOf w s)) Refused
-
--- what reading answers
-unfoldable pub readAnswer : ℕ → List ℕ → ℕ → SheetAnswer
-readAnswer w s places = byVerdict (readCheck w s places) (Found (headOf w s)) Refused
-
--- what reading leaves in the lent list
-unfoldable pub readList : ℕ → List ℕ → List ℕ → List ℕ
-readList w s list = ifAccepted (readCheck w s (length list)) (addressesOf w s) list
+unfoldable pub addressesOf : SheetForm → List ℕ → List ℕ
+addressesOf f s = numbersFrom s (headLength f) (headOf f s .count)
 
 -- the bytes of a list's addresses
 unfoldable pub addressBytes : List ℕ → List ℕ
@@ -79,18 +84,64 @@ addressBytes [] = []
 addressBytes (a ∷ rest) = bytesOfNumber 8 a ++ addressBytes rest
 
 -- the sheet of a plan
-unfoldable pub sheetBytes : ℕ → ℕ → ℕ → List ℕ → List ℕ
-sheetBytes w text dat list =
+unfoldable pub sheetBytes : SheetForm → ℕ → ℕ → List ℕ → List ℕ
+sheetBytes f text dat list =
+    let w = countWidth f in
     bytesOfNumber w 2 ++ (bytesOfNumber 8 text ++ (bytesOfNumber 8 dat ++ (bytesOfNumber w (length list) ++ addressBytes list)))
 
+-- ---- reading: a sheet of either form
+
+-- SHEET, LIMIT 2, SHEET
+unfoldable pub sheetCheck : SheetForm → List ℕ → Verdict
+sheetCheck f s =
+    refuseIf (ltb (length s) (headLength f)) refusal.Sheet
+    orElse refuseIf (not (eqb (firstCount f s) 2)) refusal.Sheet
+    orElse refuseIf (ltb (listLimit f) (headOf f s .count)) (refusal.Limit SheetList)
+    orElse refuseIf (not (eqb (length s) (sheetLength f (headOf f s .count)))) refusal.Sheet
+
+-- ROOM 2: the lent list has exactly k places
+abbrev pub roomCheck : ℕ → SheetHead → Verdict
+roomCheck places h = refuseIf (not (eqb places (h .count))) (refusal.Room AddressList)
+
+unfoldable pub readCheck : SheetForm → List ℕ → ℕ → Verdict
+readCheck f s places = sheetCheck f s orElse roomCheck places (headOf f s)
+
+-- what a sheet of the form f says of itself, and what reading it answers and leaves in the lent list
+unfoldable pub headIn : List ℕ → SheetForm → SheetAnswer
+headIn s f = byVerdict (sheetCheck f s) (Found (headOf f s)) Refused
+
+unfoldable pub readIn : List ℕ → ℕ → SheetForm → SheetAnswer
+readIn s places f = byVerdict (readCheck f s places) (Found (headOf f s)) Refused
+
+unfoldable pub listIn : List ℕ → List ℕ → SheetForm → List ℕ
+listIn s list f = ifAccepted (readCheck f s (length list)) (addressesOf f s) list
+
+-- what a sheet says of itself: its addresses and how many places its list needs; SHEET where it has no form
+unfoldable pub headAnswer : List ℕ → SheetAnswer
+headAnswer s = byForm (formOf s) (headIn s) (Refused refusal.Sheet)
+
+-- what reading answers
+unfoldable pub readAnswer : List ℕ → ℕ → SheetAnswer
+readAnswer s places = byForm (formOf s) (readIn s places) (Refused refusal.Sheet)
+
+-- what reading leaves in the lent list
+unfoldable pub readList : List ℕ → List ℕ → List ℕ
+readList s list = byForm (formOf s) (listIn s list) list
+
+-- ---- writing: always a new sheet
+
 -- LIMIT 2, ROOM 0
-unfoldable pub writeCheck : ℕ → ℕ → ℕ → Verdict
-writeCheck w k room =
-    refuseIf (ltb sheetListLimit k) (refusal.Limit SheetList) orElse refuseIf (not (eqb room (sheetLength w k))) (refusal.Room SheetBuffer)
+unfoldable pub writeCheck : ℕ → ℕ → Verdict
+writeCheck k room =
+    refuseIf (ltb (listLimit New) k) (refusal.Limit SheetList) orElse refuseIf (not (eqb room (sheetLength New k))) (refusal.Room SheetBuffer)
 
 -- what writing leaves in the lent sheet
-unfoldable pub writeSheet : ℕ → ℕ → ℕ → List ℕ → List ℕ → List ℕ
-writeSheet w text dat list sheet = ifAccepted (writeCheck w (length list) (length sheet)) (sheetBytes w text dat list) sheet
+unfoldable pub writeSheet : ℕ → ℕ → List ℕ → List ℕ → List ℕ
+writeSheet text dat list sheet = ifAccepted (writeCheck (length list) (length sheet)) (sheetBytes New text dat list) sheet
+
+-- the new form of an old sheet: two zero bytes more before each of its counts
+unfoldable pub newForm : List ℕ → List ℕ
+newForm s = 0 ∷ 0 ∷ (take 18 s ++ (0 ∷ 0 ∷ drop 18 s))
 
 -- what reports on sheets start with: there is no file, and the offset is 0
 abbrev pub sheetHead : Verdict → Head

@@ -154,7 +154,7 @@ pub extern "C" fn xcoff_import_member(file: &[u8], n: u64) -> RangeReport
 // What a plan sheet says of itself: its addresses, and how many places its list needs.
 #[no_mangle]
 pub extern "C" fn xcoff_sheet_head(sheet: &[u8]) -> SheetReport
-    ensures { λ r. ⌜ r ≡ reportOfSheet (headAnswer 2 (now (sheet .entry))) ⌝ }
+    ensures { λ r. ⌜ r ≡ reportOfSheet (headAnswer (now (sheet .entry))) ⌝ }
 {
     sheet::report_sheet(sheet::sheet_head(sheet))
 }
@@ -162,8 +162,8 @@ pub extern "C" fn xcoff_sheet_head(sheet: &[u8]) -> SheetReport
 // Reads a plan sheet into a list of exactly as many places as it has addresses.
 #[no_mangle]
 pub extern "C" fn xcoff_read_sheet(sheet: &[u8], list: &mut [u64]) -> SheetReport
-    ensures answer { λ r. ⌜ r ≡ reportOfSheet (readAnswer 2 (now (sheet .entry)) (length (now (list .entry)))) ⌝ }
-    ensures list { λ _. ⌜ now (list .exit) ≡ readList 2 (now (sheet .entry)) (now (list .entry)) ⌝ }
+    ensures answer { λ r. ⌜ r ≡ reportOfSheet (readAnswer (now (sheet .entry)) (length (now (list .entry)))) ⌝ }
+    ensures list { λ _. ⌜ now (list .exit) ≡ readList (now (sheet .entry)) (now (list .entry)) ⌝ }
 {
     sheet::report_sheet(sheet::read_sheet(sheet, list))
 }
@@ -171,8 +171,8 @@ pub extern "C" fn xcoff_read_sheet(sheet: &[u8], list: &mut [u64]) -> SheetRepor
 // Writes the sheet of a plan into a buffer of exactly its length.
 #[no_mangle]
 pub extern "C" fn xcoff_write_sheet(text: u64, data: u64, list: &[u64], sheet: &mut [u8]) -> Head
-    ensures answer { λ r. ⌜ r ≡ sheetHead (writeCheck 2 (length (now (list .entry))) (length (now (sheet .entry)))) ⌝ }
-    ensures sheet { λ _. ⌜ now (sheet .exit) ≡ writeSheet 2 text «data» (now (list .entry)) (now (sheet .entry)) ⌝ }
+    ensures answer { λ r. ⌜ r ≡ sheetHead (writeCheck (length (now (list .entry))) (length (now (sheet .entry)))) ⌝ }
+    ensures sheet { λ _. ⌜ now (sheet .exit) ≡ writeSheet text «data» (now (list .entry)) (now (sheet .entry)) ⌝ }
 {
     sheet::report_head(sheet::write_sheet(VirtualAddress(text), VirtualAddress(data), list, sheet))
 }

@@ -114,11 +114,14 @@ fn with_refused_calls(p: &Plan, q: &Plan, r: &Plan) -> Vec<Call> {
     ]
 }
 
-/// The sheet of a plan, written and read back.
-fn sheets(plan: &Plan, rng: &mut Rng) -> [Op; 2] {
-    let sheet = rng.bytes(20 + 8 * plan.list.len());
+/// The sheet of a plan, written and read back, and its old form read, which more than 4,096 addresses do not have.
+fn sheets(plan: &Plan, rng: &mut Rng) -> [Op; 3] {
+    let length = reference::Form::New.length(plan.list.len() as u64);
+    let sheet = rng.bytes(length as usize);
     let mut written = sheet.clone();
     let _ = reference::write_sheet(plan.text, plan.data, &plan.list, &mut written);
+    // Without the high half of each count.
+    let old = [&written[2..20], &written[22..]].concat();
     [
         Op::WriteSheet {
             text: plan.text,
@@ -128,6 +131,10 @@ fn sheets(plan: &Plan, rng: &mut Rng) -> [Op; 2] {
         },
         Op::ReadSheet {
             sheet: written,
+            list: vec![0; plan.list.len()],
+        },
+        Op::ReadSheet {
+            sheet: old,
             list: vec![0; plan.list.len()],
         },
     ]

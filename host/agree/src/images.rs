@@ -180,20 +180,26 @@ pub fn read_sheet(sheet: &[u8], list: &[u64]) -> Agreement {
         reference::read_sheet(sheet, &mut theirs),
     )?;
     ours.holds("list", &theirs)?;
-    let mut enough = vec![0; reference::LOADER_SYMBOL_LIMIT as usize];
-    let k = if sheet.len() >= 20 {
-        usize::from(sheet[18]) * 256 + usize::from(sheet[19])
-    } else {
-        0
-    };
-    enough.truncate(k);
+    let mut enough = vec![0; reference::sheet_count(sheet)];
     let theirs = reference::read_sheet(sheet, &mut enough).map(|(text, data)| (text, data, enough));
     answers(
         "sheet read whole",
         xcoff::read_sheet(sheet).map(|p| (p.text, p.data, p.list)),
         theirs,
     )?;
+    if let Ok(plan) = xcoff::read_sheet(sheet) {
+        let back = xcoff::write_sheet(&plan);
+        answers("sheet written back", back, Ok(new_form(sheet)))?;
+    }
     Ok(agreed)
+}
+
+/// A sheet that was read is written as it was, or, an old one, with two zero bytes more before each of its counts.
+fn new_form(sheet: &[u8]) -> Vec<u8> {
+    match sheet {
+        [0, 0, ..] => sheet.to_vec(),
+        _ => [&[0, 0], &sheet[..18], &[0, 0], &sheet[18..]].concat(),
+    }
 }
 
 pub fn write_sheet(at: (u64, u64), list: &[u64], sheet: &[u8]) -> Agreement {

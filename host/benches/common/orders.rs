@@ -22,12 +22,22 @@ impl Order {
 
 pub const ORDERS: [Order; 3] = [Order::Ascending, Order::Descending, Order::Random];
 
-/// A module with so many entries, spread evenly over so many bytes of data.
+/// A module with so many entries, spread evenly over so many bytes of data, at multiples of 8.
 pub fn module(format: Format, entries: u64, data: u64, order: Order) -> Vec<u8> {
+    module_at(format, entries, data, order, 0)
+}
+
+/// The same, so many bytes after multiples of 8: at 0 no two fields can overlap, and none is looked for.
+pub fn module_at(format: Format, entries: u64, data: u64, order: Order, after: u64) -> Vec<u8> {
+    order_module(format, entries, data, order, after).bytes()
+}
+
+pub fn order_module(format: Format, entries: u64, data: u64, order: Order, after: u64) -> Module {
     let mut m = Module::new(format);
     m.data_size = data;
+    let step = data / entries / 8 * 8;
     let entry = |i| Entry {
-        address: m.data_address + i * (data / entries),
+        address: m.data_address + i * step + after,
         symbol: 0,
         kind: 0x1F00,
         section: 2,
@@ -39,7 +49,7 @@ pub fn module(format: Format, entries: u64, data: u64, order: Order) -> Vec<u8> 
         Order::Random => shuffle(&mut list),
     }
     m.entries = list;
-    m.bytes()
+    m
 }
 
 /// A fixed order that looks random.

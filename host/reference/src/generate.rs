@@ -11,12 +11,14 @@ mod operations;
 pub mod plans;
 pub mod records;
 pub mod rng;
+pub mod sizes;
 pub mod visibility;
 
 use crate::{Call, Plan, Refusal};
-use damage::Hurt;
+use damage::{count, symbols_count, Hurt};
 use make::{Made, Wish};
 use rng::Rng;
+use std::ops::Range;
 
 /// One operation, with all its arguments and what the lent buffers hold.
 #[derive(Clone, Debug, PartialEq, Eq)]
@@ -138,14 +140,15 @@ pub struct Case {
 }
 
 /// The case of a seed. Every eighth is aimed at request 2, another eighth at
-/// requests 1, 9 and 4; what belongs to a request is drawn by itself, so that the
-/// other cases stay as they are.
+/// requests 1, 9 and 4, another one at request 10; what belongs to a request is
+/// drawn by itself, so that the other cases stay as they are.
 pub fn case(seed: u64) -> Case {
     let rng = &mut Rng::new(seed);
     let later = &mut Rng::new(!seed);
     let drawn = match seed % 8 {
         7 => records_file(later),
         3 => symbols_file(later),
+        5 => in_turn(later, seed / 8, symbols_count()..count(), &[sizes::EDGES]),
         _ => any_file(rng),
     };
     let mut ops = operations::some_ops(rng, &drawn.made);
@@ -157,6 +160,7 @@ pub fn case(seed: u64) -> Case {
         expected = Some(Expected { op: at, refusal });
     }
     ops.extend(records::some_op(later, &drawn.made));
+    ops.extend(sizes::some_op(later));
     Case {
         seed,
         label: drawn.label,
@@ -250,9 +254,32 @@ fn symbols_file(rng: &mut Rng) -> Drawn {
         };
     }
     let first = damage::records_count() as u64;
-    let which = rng.between(first, damage::count() as u64 - 1);
+    let which = rng.between(first, symbols_count() as u64 - 1);
     let (name, hurt) = damage::single(rng, which as usize);
     Drawn::aimed(format!("aimed: {name}"), hurt)
+}
+
+/// An accepted edge: a file, and the operations that look at it; none where the
+/// file didn't suit.
+pub type Edge = (&'static str, fn(&mut Rng) -> Option<(Made, Vec<Op>)>);
+
+/// One of these damages and edges, each in its turn.
+fn in_turn(rng: &mut Rng, turn: u64, damages: Range<usize>, edges: &[&[Edge]]) -> Drawn {
+    let edges = edges.concat();
+    let which = (turn % (damages.len() + edges.len()) as u64) as usize;
+    if which < damages.len() {
+        let (name, hurt) = damage::single(rng, damages.start + which);
+        return Drawn::aimed(format!("aimed: {name}"), hurt);
+    }
+    let (label, make) = edges[which - damages.len()];
+    loop {
+        if let Some((made, more)) = make(rng) {
+            return Drawn {
+                more,
+                ..Drawn::plain(&format!("edge: {label}"), made)
+            };
+        }
+    }
 }
 
 /// A module or, more rarely, an object.

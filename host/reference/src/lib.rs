@@ -10,6 +10,7 @@
 
 pub mod answer;
 pub mod bytes;
+mod fields;
 pub mod generate;
 pub mod images;
 pub mod lister;
@@ -28,7 +29,7 @@ pub use module::{
 };
 pub use opening::{open, section, section_name, Section, Summary};
 pub use records::{read_records, records_length, write_records};
-pub use sheet::{read_sheet, write_sheet};
+pub use sheet::{read_sheet, sheet_count, write_sheet, Form};
 pub use symbols::{
     csect, name_fault, symbol, symbol_name, walk, walked, Csect, NameFault, Symbol, Walk,
 };
@@ -87,9 +88,12 @@ pub fn word(number: u64) -> &'static str {
 /// Limits: passed means strictly greater.
 pub const FILE_LIMIT: u64 = 16_777_216;
 pub const SECTION_LIMIT: u64 = 32;
-pub const LOADER_SYMBOL_LIMIT: u64 = 4_096;
-pub const RELOCATION_LIMIT: u64 = 4_096;
+pub const LOADER_SYMBOL_LIMIT: u64 = 70_000;
+pub const RELOCATION_LIMIT: u64 = 100_000;
 pub const IMAGE_LIMIT: u64 = 16_777_216;
+/// Addresses of an old sheet; a new one holds as many as there may be loader
+/// symbols.
+pub const OLD_SHEET_LIMIT: u64 = 4_096;
 
 /// Short form for giving a refusal back whose item names no place in the file.
 pub(crate) fn refuse<T>(number: u64, item: u64) -> Result<T, Refusal> {

@@ -1,6 +1,7 @@
 //! Document 01, "The loadable module".
 
 use crate::bytes::{by, number};
+use crate::fields::{Fields, Sort};
 use crate::opening::{self, file_header, header_at, open, Section, Summary};
 use crate::symbols::short_name;
 use crate::{
@@ -377,6 +378,8 @@ struct Tables {
     relocations: Range<usize>,
     ids: Range<usize>,
     strings: Range<usize>,
+    /// Where the string table has zeros, in order.
+    zeros: Vec<usize>,
 }
 
 /// The loader section's header, with what XCOFF32 leaves to be worked out.
@@ -441,6 +444,7 @@ fn read_tables(file: &[u8], bits: u64, loader: &Range<usize>) -> Result<Tables, 
         return refuse_at(LOADER, 4, loader.start);
     }
     let strings = table(loader, header.string_offset, header.string_length, 5)?;
+    let zeros = strings.clone().filter(|&at| file[at] == 0).collect();
     Ok(Tables {
         symbol_count: header.symbol_count,
         relocation_count: header.relocation_count,
@@ -449,6 +453,7 @@ fn read_tables(file: &[u8], bits: u64, loader: &Range<usize>) -> Result<Tables, 
         relocations,
         ids,
         strings,
+        zeros,
     })
 }
 
@@ -531,11 +536,13 @@ fn symbol_name(file: &[u8], bits: u64, tables: &Tables, at: usize) -> Option<Ran
         return Some(short_name(file, at));
     }
     let offset = number(file, at + by(bits, 4, 8), 4);
-    string_name(file, &tables.strings, offset)
+    string_name(file, tables, offset)
 }
 
-/// A name of the loader's string table, without its closing zero.
-fn string_name(file: &[u8], strings: &Range<usize>, offset: u64) -> Option<Range<usize>> {
+/// A name of the loader's string table, without its closing zero, the first one in
+/// it. Names may share their bytes, so none is searched.
+fn string_name(file: &[u8], tables: &Tables, offset: u64) -> Option<Range<usize>> {
+    let strings = &tables.strings;
     if offset < 2 || offset > strings.len() as u64 {
         return None;
     }
@@ -545,10 +552,8 @@ fn string_name(file: &[u8], strings: &Range<usize>, offset: u64) -> Option<Range
         return None;
     }
     let last = start + length - 1;
-    if file[last] != 0 {
-        return None;
-    }
-    if file[start..last].contains(&0) {
+    let first = tables.zeros.partition_point(|&zero| zero < start);
+    if tables.zeros.get(first) != Some(&last) {
         return None;
     }
     Some(start..last)
@@ -562,6 +567,8 @@ fn read_relocations(
     parts: &Parts,
 ) -> Result<Vec<Relocation>, Refusal> {
     let mut entries = Vec::new();
+    let mut text = Fields::new(parts.text.section.size);
+    let mut data = Fields::new(parts.data.section.size);
     for i in 0..tables.relocation_count {
         let at = tables.relocations.start + by(bits, 12, 16) * i as usize;
         let entry = read_relocation(file, bits, at);
@@ -571,7 +578,13 @@ fn read_relocations(
         if !entry_allowed(&entry, tables.symbol_count, parts, bits) {
             return refuse_at(LREL, i, at);
         }
-        if overlaps(&entry, &entries) {
+        let (fields, section) = if entry.section == parts.text.number {
+            (&mut text, parts.text.section)
+        } else {
+            (&mut data, parts.data.section)
+        };
+        let place = (entry.address - section.paddr) as usize;
+        if !fields.add(place, Sort::of_width(entry.width)) {
             return refuse_at(OVERLAP, i, at);
         }
         entries.push(entry);
@@ -621,18 +634,4 @@ pub fn type_allowed(kind: u64, bits: u64) -> bool {
     let width = width_of(kind);
     (low == 0x00 || low == 0x0C || low == 0x0D || low == 0x01)
         && (width == 32 || (bits == 64 && width == 64))
-}
-
-/// Whether the field meets an earlier one: fields of one section are the same
-/// bytes or share none.
-fn overlaps(entry: &Relocation, earlier: &[Relocation]) -> bool {
-    earlier.iter().any(|other| {
-        let same = other.address == entry.address && other.width == entry.width;
-        let apart = if other.address <= entry.address {
-            entry.address - other.address >= other.width / 8
-        } else {
-            other.address - entry.address >= entry.width / 8
-        };
-        other.section == entry.section && !same && !apart
-    })
 }

@@ -7,6 +7,7 @@ mod edges;
 use crate::generate::Op;
 use crate::opening::{TBSS, TDATA};
 use crate::records::{bad_line, Fault};
+use crate::sheet::Form;
 use crate::symbols::{ld_container, name_fault, NameFault};
 use crate::{module, open, symbol, word, Refusal, ROOM, VISIBILITY};
 use std::collections::BTreeMap;
@@ -110,6 +111,15 @@ pub const CLASSES: &[Class] = &[
     class(0, "5 to 7, version 3", Only32, &[Symbol, Csect]),
     class(0, "5 to 7, other class", Only32, &[Symbol]),
     class(0, "5 to 7, XCOFF64", Only64, &[Symbol, Csect]),
+    class(0, "70,000 loader symbols", Both, &[Module]),
+    class(0, "100,000 entries", Both, &[Module]),
+    class(0, "old sheet of 0", Neither, &[Sheet]),
+    class(0, "old sheet of 4,096", Neither, &[Sheet]),
+    class(0, "new sheet of 0", Neither, &[Sheet]),
+    class(0, "new sheet of 4,097", Neither, &[Sheet]),
+    class(0, "new sheet of 70,000", Neither, &[Sheet]),
+    class(0, "written sheet of 0", Neither, &[Sheet]),
+    class(0, "written sheet of 70,000", Neither, &[Sheet]),
     class(1, "0 under 2 bytes", Neither, OPENING),
     class(1, "0 file header", Both, OPENING),
     class(1, "0 header area", Both, OPENING),
@@ -117,7 +127,8 @@ pub const CLASSES: &[Class] = &[
     class(3, "0 file", Both, OPENING),
     class(3, "1 sections", Both, OPENING),
     class(3, "2 loader symbols", Both, LOADING),
-    class(3, "2 sheet read", Neither, &[Sheet]),
+    class(3, "2 old sheet", Neither, &[Sheet]),
+    class(3, "2 new sheet", Neither, &[Sheet]),
     class(3, "2 sheet written", Neither, &[Sheet]),
     class(3, "3 relocation entries", Both, LOADING),
     class(3, "4 data image", Both, LOADING),
@@ -172,9 +183,12 @@ pub const CLASSES: &[Class] = &[
     class(20, "1 data", Both, PLANNED),
     class(20, "2 list of a plan", Both, PLANNED),
     class(20, "2 list of a sheet", Neither, &[Sheet]),
-    class(21, "0 under 20 bytes", Neither, &[Sheet]),
-    class(21, "0 first count", Neither, &[Sheet]),
-    class(21, "0 length", Neither, &[Sheet]),
+    class(21, "0 first bytes", Neither, &[Sheet]),
+    class(21, "0 old, under 20 bytes", Neither, &[Sheet]),
+    class(21, "0 old, length", Neither, &[Sheet]),
+    class(21, "0 new, under 24 bytes", Neither, &[Sheet]),
+    class(21, "0 new, first count", Neither, &[Sheet]),
+    class(21, "0 new, length", Neither, &[Sheet]),
     class(22, "line: type", Only32, &[Records]),
     class(22, "line: count", Only32, &[Records]),
     class(22, "line: address", Only32, &[Records]),
@@ -270,7 +284,10 @@ fn limit(op: &Op, item: u64) -> &'static str {
     match (item, op) {
         (0, _) => "0 file",
         (1, _) => "1 sections",
-        (2, Op::ReadSheet { .. }) => "2 sheet read",
+        (2, Op::ReadSheet { sheet, .. }) => match Form::of(sheet) {
+            Some(Form::Old) => "2 old sheet",
+            _ => "2 new sheet",
+        },
         (2, Op::WriteSheet { .. }) => "2 sheet written",
         (2, _) => "2 loader symbols",
         (3, _) => "3 relocation entries",
@@ -386,12 +403,21 @@ fn room(file: &[u8], op: &Op, item: u64) -> &'static str {
     }
 }
 
+/// SHEET: what is wrong with the sheet.
 fn sheet(op: &Op) -> &'static str {
-    match op {
-        Op::ReadSheet { sheet, .. } if sheet.len() < 20 => "0 under 20 bytes",
-        Op::ReadSheet { sheet, .. } if sheet[..2] != [0, 2] => "0 first count",
-        Op::ReadSheet { .. } => "0 length",
-        _ => "?",
+    let Op::ReadSheet { sheet, .. } = op else {
+        return "?";
+    };
+    let Some(form) = Form::of(sheet) else {
+        return "0 first bytes";
+    };
+    let short = sheet.len() < form.list_at();
+    match form {
+        Form::Old if short => "0 old, under 20 bytes",
+        Form::Old => "0 old, length",
+        Form::New if short => "0 new, under 24 bytes",
+        Form::New if sheet[2..4] != [0, 2] => "0 new, first count",
+        Form::New => "0 new, length",
     }
 }
 
@@ -464,10 +490,12 @@ impl Table {
     /// nothing.
     pub fn accept(&mut self, file: &[u8], op: &Op) {
         for edge in edges::accepted(file, op) {
-            *self
-                .reached
-                .entry((0, edge, bits_of(file), group_of(op)))
-                .or_insert(0) += 1;
+            let bits = match group_of(op) {
+                Sheet => 0,
+                _ => bits_of(file),
+            };
+            let key = (0, edge, bits, group_of(op));
+            *self.reached.entry(key).or_insert(0) += 1;
         }
     }
 

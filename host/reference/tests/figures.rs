@@ -257,9 +257,9 @@ fn loader_symbol_limit() {
             loader_symbols: Some(count),
             ..wish.clone()
         };
-        let file = made(with(4_096)).bytes;
-        assert_eq!(module(&file).unwrap().loader_symbols, 4_096);
-        let over = made(with(4_097));
+        let file = made(with(70_000)).bytes;
+        assert_eq!(module(&file).unwrap().loader_symbols, 70_000);
+        let over = made(with(70_001));
         assert_eq!(module(&over.bytes), limit_at(2, over.loader_at));
     }
 }
@@ -271,9 +271,9 @@ fn relocation_limit() {
             entries: Some(count),
             ..wish.clone()
         };
-        let file = made(with(4_096)).bytes;
-        assert_eq!(module(&file).unwrap().relocations, 4_096);
-        let over = made(with(4_097));
+        let file = made(with(100_000)).bytes;
+        assert_eq!(module(&file).unwrap().relocations, 100_000);
+        let over = made(with(100_001));
         assert_eq!(module(&over.bytes), limit_at(3, over.loader_at));
     }
 }

@@ -275,25 +275,96 @@ fn ignored_places_do_not_matter() {
 fn sheets_come_back() {
     for seed in 0..300 {
         let mut rng = Rng::new(seed);
-        let k = if seed == 0 {
-            4_096
-        } else {
-            rng.below(20) as usize
+        let k = match seed {
+            0 => 4_096,
+            1 => 70_000,
+            _ => rng.below(20) as usize,
         };
         let list = damage::junk_list(&mut rng, k);
         let (text, data) = (rng.next(), rng.next());
-        let mut sheet = rng.bytes(20 + 8 * k);
-        write_sheet(text, data, &list, &mut sheet).unwrap();
+        let sheet = written(&mut rng, text, data, &list);
         let mut read = damage::junk_list(&mut rng, k);
         assert_eq!(read_sheet(&sheet, &mut read), Ok((text, data)));
         assert_eq!(read, list);
-        // And a sheet that was read writes back as the same bytes.
-        let sheet = damage::good_sheet(&mut rng, k);
+        // And a new sheet that was read writes back as the same bytes.
+        let sheet = damage::good_sheet(&mut rng, Form::New, k);
         let (text, data) = read_sheet(&sheet, &mut read).unwrap();
-        let mut again = rng.bytes(20 + 8 * k);
-        write_sheet(text, data, &read, &mut again).unwrap();
-        assert_eq!(again, sheet);
+        assert_eq!(written(&mut rng, text, data, &read), sheet);
     }
+}
+
+#[test]
+fn an_old_sheet_gives_its_new_form() {
+    for seed in 0..300 {
+        let mut rng = Rng::new(seed);
+        let k = match seed {
+            0 => 4_096,
+            _ => rng.below(20) as usize,
+        };
+        let old = damage::good_sheet(&mut rng, Form::Old, k);
+        let mut list = damage::junk_list(&mut rng, k);
+        let (text, data) = read_sheet(&old, &mut list).unwrap();
+        // Both counts get two more bytes, all else stays.
+        let new = [&[0, 0], &old[..18], &[0, 0], &old[18..]].concat();
+        assert_eq!(written(&mut rng, text, data, &list), new);
+    }
+}
+
+fn written(rng: &mut Rng, text: u64, data: u64, list: &[u64]) -> Vec<u8> {
+    let mut sheet = rng.bytes(24 + 8 * list.len());
+    write_sheet(text, data, list, &mut sheet).unwrap();
+    sheet
+}
+
+/// OVERLAP as 01 says it, each field against all earlier ones.
+fn first_overlap(fields: &[(u64, u64)]) -> Option<u64> {
+    let meets = |&(one, length): &(u64, u64), &(other, width): &(u64, u64)| {
+        let same = (one, length) == (other, width);
+        let apart = one + length <= other || other + width <= one;
+        !same && !apart
+    };
+    let later = |&i: &usize| fields[..i].iter().any(|earlier| meets(earlier, &fields[i]));
+    (0..fields.len()).find(later).map(|i| i as u64)
+}
+
+#[test]
+fn fields_meet_as_document_01_says() {
+    let mut met = 0;
+    for seed in 0..SEEDS {
+        let mut rng = Rng::new(seed);
+        let wish = Wish {
+            rich: true,
+            low: true,
+            ..Wish::default()
+        };
+        let mut made = make::module(&mut rng, &wish);
+        let mut fields = Vec::new();
+        let step = rng.pick(&[1, 2, 4, 4, 8, 8]);
+        for i in 0..made.entries.len() {
+            let width = if made.bits == 64 {
+                rng.pick(&[4, 8])
+            } else {
+                4
+            };
+            let last = (made.text_size - width) / step;
+            let at = made.text_address + step * rng.between(0, last);
+            made.put(made.entry_address_field(i), at);
+            made.put(made.entry_section_field(i), made.text);
+            made.put(made.entry_type_field(i), (8 * width - 1) << 8);
+            fields.push((at, width));
+        }
+        let expected = first_overlap(&fields);
+        let found = module(&made.bytes).err();
+        assert_eq!(
+            found.map(|r| (r.number, r.item)),
+            expected.map(|i| (OVERLAP, i))
+        );
+        met += u64::from(expected.is_some());
+    }
+    assert!(
+        met > 1_000 && met < 2_500,
+        "{met} modules with fields that meet"
+    );
 }
 
 #[test]

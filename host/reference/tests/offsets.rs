@@ -129,10 +129,10 @@ fn the_loader_section() {
             triple(module(&made.bytes))
         };
         assert_eq!(hurt(Head::Version, 3), (LOADER, 1, at));
-        assert_eq!(hurt(Head::Symbols, 4_097), (LIMIT, 2, at));
-        assert_eq!(hurt(Head::Relocations, 4_097), (LIMIT, 3, at));
-        assert_eq!(hurt(Head::Symbols, 4_096), (LOADER, 2, at));
-        assert_eq!(hurt(Head::Relocations, 4_096), (LOADER, 3, at));
+        assert_eq!(hurt(Head::Symbols, 70_001), (LIMIT, 2, at));
+        assert_eq!(hurt(Head::Relocations, 100_001), (LIMIT, 3, at));
+        assert_eq!(hurt(Head::Symbols, 70_000), (LOADER, 2, at));
+        assert_eq!(hurt(Head::Relocations, 100_000), (LOADER, 3, at));
         assert_eq!(hurt(Head::Ids, 0xFFFF_FFFF), (LOADER, 4, at));
         assert_eq!(hurt(Head::StringLength, 0xFFFF_FFFF), (LOADER, 5, at));
         // Empty, without raw data or with it at the file's end.
@@ -191,7 +191,7 @@ fn no_place_for_plans_buffers_and_sheets() {
         assert_eq!(bad, (PLAN, 0, 0));
         let index = triple(loader_symbol(&made.bytes, 2));
         assert_eq!(index, (INDEX, 2, 0));
-        let long = vec![0; 4_097];
+        let long = vec![0; 70_001];
         let limit = triple(write_sheet(0, 0, &long, &mut []));
         assert_eq!(limit, (LIMIT, 2, 0));
         let deleted = changed(&made, Part::Flags, made.bss, opening::DELETED);

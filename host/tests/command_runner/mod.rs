@@ -125,12 +125,22 @@ pub fn real(name: &str) -> Vec<u8> {
     fs::read(path.unwrap_or_else(|| panic!("no real file {name}"))).unwrap()
 }
 
-/// A plan sheet, written from its description and not by the library.
+/// A plan sheet, written from its description and not by the library: counts of 4 bytes.
 pub fn sheet(text: u64, data: u64, list: &[u64]) -> Vec<u8> {
-    let mut bytes = vec![0, 2];
+    sheet_with(4, text, data, list)
+}
+
+/// An old one: counts of 2 bytes.
+pub fn old_sheet(text: u64, data: u64, list: &[u64]) -> Vec<u8> {
+    sheet_with(2, text, data, list)
+}
+
+fn sheet_with(width: usize, text: u64, data: u64, list: &[u64]) -> Vec<u8> {
+    let count = |n: usize| (n as u32).to_be_bytes()[4 - width..].to_vec();
+    let mut bytes = count(2);
     bytes.extend(text.to_be_bytes());
     bytes.extend(data.to_be_bytes());
-    bytes.extend((list.len() as u16).to_be_bytes());
+    bytes.extend(count(list.len()));
     for address in list {
         bytes.extend(address.to_be_bytes());
     }

@@ -44,8 +44,10 @@ pub struct Module {
     pub text_size: u64,
     pub data_address: u64,
     pub data_size: u64,
-    /// Loader symbols, all named `s`.
+    /// Loader symbols, all of one name.
     pub symbols: Vec<Symbol>,
+    /// How long it is: `s` so many times. XCOFF32 has a name of up to 8 bytes in each symbol, all others are the one string.
+    pub name: u16,
     pub entries: Vec<Entry>,
 }
 
@@ -58,6 +60,7 @@ impl Module {
             data_address: 0x2000_0000,
             data_size: 0x100,
             symbols: Vec::new(),
+            name: 1,
             entries: Vec::new(),
         }
     }
@@ -150,16 +153,30 @@ impl Module {
             out.relocation(entry);
         }
         out.bytes.extend(self.import_ids());
-        if self.format == Format::Xcoff64 {
-            out.bytes.extend(b"\0\x02s\0");
-        }
+        out.bytes.extend(self.strings());
         out.bytes
+    }
+
+    /// The name behind its length, which counts the zero at its end.
+    fn strings(&self) -> Vec<u8> {
+        if self.name_in_symbol() {
+            return Vec::new();
+        }
+        let mut string = (self.name + 1).to_be_bytes().to_vec();
+        string.resize(2 + self.name as usize, b's');
+        string.push(0);
+        string
+    }
+
+    fn name_in_symbol(&self) -> bool {
+        self.format == Format::Xcoff32 && self.name <= 8
     }
 
     fn loader_header(&self, out: &mut Writer) {
         let count = self.symbols.len() as u64;
         let entries = self.entries.len() as u64;
         let ids = self.import_ids();
+        let strings = self.strings().len() as u32;
         out.u32(1);
         out.u32(count as u32);
         out.u32(entries as u32);
@@ -167,14 +184,20 @@ impl Module {
         out.u32(if ids.is_empty() { 0 } else { 2 });
         match self.format {
             Format::Xcoff32 => {
-                out.word(32 + 24 * count + 12 * entries);
-                out.zeros(8);
+                let rest = 32 + 24 * count + 12 * entries;
+                out.word(rest);
+                out.u32(strings);
+                out.word(if strings == 0 {
+                    0
+                } else {
+                    rest + ids.len() as u64
+                });
             }
             Format::Xcoff64 => {
                 let symbols = 56;
                 let relocations = symbols + 24 * count;
                 let rest = relocations + 16 * entries;
-                out.u32(4);
+                out.u32(strings);
                 for n in [rest, rest + ids.len() as u64, symbols, relocations] {
                     out.word(n);
                 }
@@ -186,7 +209,16 @@ impl Module {
         let (value, section, kind, id) = symbol.fields(self);
         match self.format {
             Format::Xcoff32 => {
-                out.bytes.extend(b"s\0\0\0\0\0\0\0");
+                match self.name_in_symbol() {
+                    true => {
+                        out.bytes.extend(vec![b's'; self.name as usize]);
+                        out.zeros(8 - self.name as usize);
+                    }
+                    false => {
+                        out.zeros(4);
+                        out.u32(2);
+                    }
+                }
                 out.word(value);
             }
             Format::Xcoff64 => {

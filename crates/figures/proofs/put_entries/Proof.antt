@@ -12,39 +12,27 @@ Inv-loop s₀ start n i₀ s i = (length s ≡ length s₀) × (i ≤ n)
 abbrev μ-loop : tie.MeasureT-loop
 μ-loop s₀ start n i₀ s i = n - i
 
--- src/main.rt:113:5
 loop-holds : tie.Need-loop-holds Inv-loop μ-loop
 loop-holds c = (refl, omega arith)
 
--- src/main.rt:114:32
-cast-put-entry : tie.Need-cast-put-entry Inv-loop μ-loop
-cast-put-entry c = search needs
-
--- src/main.rt:114:32
 mul-put-entry : tie.Need-mul-put-entry Inv-loop μ-loop
 mul-put-entry c = search needs
 
--- src/main.rt:114:9
 put-entry-requires : tie.Need-put-entry-requires Inv-loop μ-loop
 put-entry-requires c κs = search needs
 
--- src/main.rt:115:9
 add-i : tie.Need-add-i Inv-loop μ-loop
 add-i c = search needs
 
--- src/main.rt:113:5
 loop-less : tie.Need-loop-less Inv-loop μ-loop
 loop-less c = omega (arith, c .before .before .before .before .loop-test .taken)
 
--- src/main.rt:113:5
 loop-again : tie.Need-loop-again Inv-loop μ-loop
 loop-again c = search needs
 
--- src/main.rt:111:1
 same-length : tie.Need-same-length Inv-loop μ-loop
 same-length c = search needs
 
--- src/main.rt:111:1
 returns : tie.Need-returns Inv-loop μ-loop
 returns c = search needs
 
@@ -55,7 +43,6 @@ put-entries-spec =
     Inv-loop
     μ-loop
     loop-holds
-    cast-put-entry
     mul-put-entry
     put-entry-requires
     add-i

@@ -1,59 +1,70 @@
 use borrow.Author.Needs.{needs}
-use borrow.Author.Tests.{eq-eqb, le-ltb, lt-ltb, ne-eqb}
+use lib.ListN.{length}
 use mathlib.Core.Path.{_≡_}
+use borrow.Author.Tests.{eq-eqb, le-ltb, lt-ltb, ne-eqb}
 use native.Mathlib.Omega.{arith}
-use Rattle.sheet.specs.Sheet.{sheetCheck}
+use Rattle.sheet.specs.Sheet.{headLength, sheetCheck}
 use Rattle.sheet.proofs.check_sheet.Statement.{statement}
 use Rattle.sheet.proofs.check_sheet.Tie as tie
 
+head-length-requires : tie.Need-head-length-requires
+head-length-requires c κs = search needs
+
 returns : tie.Need-returns
 unfolding sheetCheck
-returns c = rw (lt-ltb _ _ (c .if1 .taken))
+returns c =
+    let a = c .before .before .before .args in
+    rw (lt-ltb (length (a .sheet .now)) (headLength (a .f)) (omega arith))
 
-get16-requires : tie.Need-get16-requires
-get16-requires c κs = search needs
+read-count-requires : tie.Need-read-count-requires
+read-count-requires c κs = search needs
 
 returns-2 : tie.Need-returns-2
 unfolding sheetCheck
-returns-2 c = rw (le-ltb _ _ (c .before .before .if1 .left), ← c .before .get16 .ensures, ne-eqb (c .before .get16 .result) 2 (λ e. omega arith))
+returns-2 c =
+    let a = c .before .before .before .before .before .args in
+    rw (le-ltb (length (a .sheet .now)) (headLength (a .f)) (omega arith), ← c .before .read-count .ensures, ne-eqb (c .before .read-count .result) 2 (λ e. omega arith))
 
 read-head-requires : tie.Need-read-head-requires
 read-head-requires c κs = search needs
 
-sheet-length-requires : tie.Need-sheet-length-requires
-sheet-length-requires c κs = search needs
+list-limit-requires : tie.Need-list-limit-requires
+list-limit-requires c κs = search needs
 
 returns-3 : tie.Need-returns-3
 unfolding sheetCheck
 returns-3 c =
-    let second = c .before .before .before in
-    let two : second .before .get16 .result ≡ 2 = omega arith in
-    rw (le-ltb _ _ (second .before .before .if1 .left), ← second .before .get16 .ensures, two, ← c .before .before .read-head .ensures, lt-ltb _ _ (c .if3 .taken))
+    let a = c .before .before .before .before .before .before .before .before .before .args in
+    let two : c .before .before .before .before .before .read-count .result ≡ 2 = omega arith in
+    rw (le-ltb (length (a .sheet .now)) (headLength (a .f)) (omega arith), ← c .before .before .before .before .before .read-count .ensures, two, ← c .before .before .before .read-head .ensures, ← c .before .before .list-limit .ensures, lt-ltb _ _ (c .if3 .taken))
+
+sheet-length-requires : tie.Need-sheet-length-requires
+sheet-length-requires c κs = search needs
 
 returns-4 : tie.Need-returns-4
 unfolding sheetCheck
 returns-4 c =
-    let third = c .before .before in
-    let second = third .before .before .before in
-    let two : second .before .get16 .result ≡ 2 = omega arith in
-    rw (le-ltb _ _ (second .before .before .if1 .left), ← second .before .get16 .ensures, two, ← third .before .before .read-head .ensures, le-ltb _ _ (third .if3 .left), ← c .before .sheet-length .ensures, ne-eqb _ _ (c .if4 .taken))
+    let a = c .before .before .before .before .before .before .before .before .before .before .before .args in
+    let two : c .before .before .before .before .before .before .before .read-count .result ≡ 2 = omega arith in
+    rw (le-ltb (length (a .sheet .now)) (headLength (a .f)) (omega arith), ← c .before .before .before .before .before .before .before .read-count .ensures, two, ← c .before .before .before .before .before .read-head .ensures, ← c .before .before .before .before .list-limit .ensures, le-ltb _ _ (c .before .before .if3 .left), ← c .before .sheet-length .ensures, ne-eqb _ _ (c .if4 .taken))
 
 returns-5 : tie.Need-returns-5
 unfolding sheetCheck
 returns-5 c =
-    let third = c .before .before in
-    let second = third .before .before .before in
-    let two : second .before .get16 .result ≡ 2 = omega arith in
-    rw (le-ltb _ _ (second .before .before .if1 .left), ← second .before .get16 .ensures, two, ← third .before .before .read-head .ensures, le-ltb _ _ (third .if3 .left), ← c .before .sheet-length .ensures, eq-eqb _ _ (c .if4 .left))
+    let a = c .before .before .before .before .before .before .before .before .before .before .before .args in
+    let two : c .before .before .before .before .before .before .before .read-count .result ≡ 2 = omega arith in
+    rw (le-ltb (length (a .sheet .now)) (headLength (a .f)) (omega arith), ← c .before .before .before .before .before .before .before .read-count .ensures, two, ← c .before .before .before .before .before .read-head .ensures, ← c .before .before .before .before .list-limit .ensures, le-ltb _ _ (c .before .before .if3 .left), ← c .before .sheet-length .ensures, eq-eqb _ _ (c .if4 .left))
 
 pub check-sheet-spec : {M : Type 1} → statement M
 check-sheet-spec =
     tie.close
     (tie.spec
+    head-length-requires
     returns
-    get16-requires
+    read-count-requires
     returns-2
     read-head-requires
+    list-limit-requires
     returns-3
     sheet-length-requires
     returns-4

@@ -3,21 +3,21 @@ use borrow.Author.Needs.{needs}
 use lib.ListN.{length, length-set}
 use lib.Seq.{sets}
 use mathlib.Core.Path.{_∙_, _≡_, refl, sym}
-use native.Mathlib.Nat.{sub-zero}
+use native.Mathlib.Nat.{add-zero, sub-zero}
 use Rattle.sheet.proofs.Addresses.{fill-end, fill-next, length-numbers}
-use Rattle.sheet.specs.Sheet.{headLength, numbersFrom}
+use Rattle.sheet.specs.Sheet.{numbersFrom}
 use Rattle.sheet.proofs.fill_list.Statement.{statement}
 use Rattle.sheet.proofs.fill_list.Tie as tie
 use Rattle.update.proofs.Stores.{sets-whole}
 
 abbrev Inv-loop : tie.InvT-loop
-Inv-loop sheet list₀ i₀ list i = (i ≤ length list₀) × (length list ≡ length list₀) × (sets list i (numbersFrom sheet (headLength 2 + i * 8) (length list₀ - i)) ≡ sets list₀ 0 (numbersFrom sheet (headLength 2) (length list₀)))
+Inv-loop sheet start list₀ i₀ list i = (i ≤ length list₀) × (length list ≡ length list₀) × (sets list i (numbersFrom sheet (start + i * 8) (length list₀ - i)) ≡ sets list₀ 0 (numbersFrom sheet start (length list₀)))
 
 abbrev μ-loop : tie.MeasureT-loop
-μ-loop sheet list₀ i₀ list i = length list₀ - i
+μ-loop sheet start list₀ i₀ list i = length list₀ - i
 
 loop-holds : tie.Need-loop-holds Inv-loop μ-loop
-loop-holds c = (search needs, refl, rw sub-zero refl)
+loop-holds c = (search needs, refl, rw (sub-zero, add-zero) refl)
 
 mul-get64 : tie.Need-mul-get64 Inv-loop μ-loop
 mul-get64 c = search needs
@@ -46,7 +46,7 @@ loop-again c =
     let a = l .before .before .before .args in (
       search needs,
       simp length-set (l .loop .inv .1),
-      fill-next (a .sheet .now) (l .loop .list) (headLength 2) (l .loop .i) (length (a .list .now)) _ (search needs) (c .get64 .ensures) ∙ l .loop .inv .2,
+      fill-next (a .sheet .now) (l .loop .list) (a .start) (l .loop .i) (length (a .list .now)) _ (search needs) (c .get64 .ensures) ∙ l .loop .inv .2,
     )
 
 same-length : tie.Need-same-length Inv-loop μ-loop
@@ -56,9 +56,9 @@ returns : tie.Need-returns Inv-loop μ-loop
 returns c =
     let l = c .before in
     let a = l .before .before .before .args in
-    sym (fill-end (a .sheet .now) (l .loop .list) (headLength 2 + l .loop .i * 8) (l .loop .i) (length (a .list .now)) (search needs))
+    sym (fill-end (a .sheet .now) (l .loop .list) (a .start + l .loop .i * 8) (l .loop .i) (length (a .list .now)) (search needs))
     ∙ l .loop .inv .2
-    ∙ sets-whole (a .list .now) _ (length-numbers (a .sheet .now) (headLength 2) (length (a .list .now)))
+    ∙ sets-whole (a .list .now) _ (length-numbers (a .sheet .now) (a .start) (length (a .list .now)))
 
 pub fill-list-spec : {M : Type 1} → statement M
 fill-list-spec =

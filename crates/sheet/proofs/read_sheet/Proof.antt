@@ -1,51 +1,41 @@
 use borrow.Author.Needs.{needs}
-use native.Mathlib.Omega.{arith}
-use Rattle.sheet.proofs.Answers.{read-by, read-refused, whole-length}
-use Rattle.word.proofs.Test.{found}
+use Rattle.sheet.proofs.Answers.{read-known, read-none}
 use Rattle.sheet.proofs.read_sheet.Statement.{statement}
 use Rattle.sheet.proofs.read_sheet.Tie as tie
 
-check-sheet-requires : tie.Need-check-sheet-requires
-check-sheet-requires c κs = search needs
+form-of-requires : tie.Need-form-of-requires
+form-of-requires c κs = search needs
+
+enum-known-a : tie.Need-enum-known-a
+enum-known-a c = search needs
+
+read-in-requires : tie.Need-read-in-requires
+read-in-requires c κs = search needs
 
 enum-told : tie.Need-enum-told
 enum-told c = search needs
-
-read-head-requires : tie.Need-read-head-requires
-read-head-requires c κs = omega (arith, whole-length 2 (c .before .before .before .before .before .args .sheet .now) (found (c .before .before .check-sheet .ensures) (c .enum-told .given .1)))
-
-read-list-requires : tie.Need-read-list-requires
-read-list-requires c κs =
-    let told = c .before .before in
-    let a = told .before .before .before .before .before .args in
-    rw (c .before .read-head .ensures) (omega (arith, whole-length 2 (a .sheet .now) (found (told .before .before .check-sheet .ensures) (told .enum-told .given .1))))
-
-enum-known-v : tie.Need-enum-known-v
-enum-known-v c = search needs
 
 same-length : tie.Need-same-length
 same-length c = search needs
 
 returns : tie.Need-returns
 returns c =
-    let told = c .before .before .before .before .before in
-    let a = told .before .before .before .before .before .args in
-    read-by 2 (a .sheet .now) (told .before .before .check-sheet .ensures) (a .list .now) _ (told .enum-told .given .1) (c .before .before .before .before .read-head .ensures) (c .before .before .read-list .ensures .0) (c .before .before .read-list .ensures .1)
+    let a = c .before .before .before .before .before .before .before .before .before .before .args in
+    read-known (a .sheet .now) (a .list .now) (c .before .before .before .before .before .before .before .form-of .ensures) (c .before .before .before .before .before .a .given .1) (c .before .before .read-in .ensures)
 
 returns-2 : tie.Need-returns-2
 returns-2 c =
-    let a = c .before .before .before .before .before .before .args in
-    read-refused 2 (a .sheet .now) (c .before .before .before .check-sheet .ensures) (a .list .now) (c .before .v .given .1)
+    let a = c .before .before .before .before .before .args in
+    read-none (a .sheet .now) (a .list .now) (c .before .before .form-of .ensures) (c .enum-told .given .1)
 
 pub read-sheet-spec : {M : Type 1} → statement M
 read-sheet-spec =
     tie.close
     (tie.spec
-    check-sheet-requires
+    form-of-requires
+    enum-known-a
+    read-in-requires
     enum-told
-    read-head-requires
-    read-list-requires
-    enum-known-v
     same-length
     returns
     returns-2)

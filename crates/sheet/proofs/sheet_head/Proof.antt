@@ -1,35 +1,35 @@
 use borrow.Author.Needs.{needs}
-use native.Mathlib.Omega.{arith}
-use Rattle.sheet.proofs.Answers.{head-found, head-refused, whole-length}
-use Rattle.sheet.specs.Sheet.{reportOfSheet}
+use mathlib.Core.Path.{_∙_}
+use Rattle.sheet.proofs.Answers.{by-known, by-none}
+use Rattle.sheet.specs.Sheet.{headAnswer, headIn, reportOfSheet}
 use Rattle.refusal.proofs.Report.{reported}
-use Rattle.word.proofs.Test.{found}
 use Rattle.sheet.proofs.sheet_head.Statement.{statement}
 use Rattle.sheet.proofs.sheet_head.Tie as tie
 
-check-sheet-requires : tie.Need-check-sheet-requires
-check-sheet-requires c κs = search needs
+form-of-requires : tie.Need-form-of-requires
+form-of-requires c κs = search needs
+
+enum-known-a : tie.Need-enum-known-a
+enum-known-a c = search needs
+
+head-in-requires : tie.Need-head-in-requires
+head-in-requires c κs = search needs
 
 enum-told : tie.Need-enum-told
 enum-told c = search needs
 
-read-head-requires : tie.Need-read-head-requires
-read-head-requires c κs = omega (arith, whole-length 2 (c .before .before .before .before .args .sheet .now) (found (c .before .before .check-sheet .ensures) (c .enum-told .given .1)))
-
-enum-known-v : tie.Need-enum-known-v
-enum-known-v c = search needs
-
 returns : tie.Need-returns
+unfolding headAnswer
 returns c =
-    let a = c .before .before .before .before .before .args in
-    reported reportOfSheet (head-found 2 (a .sheet .now) (c .before .before .before .check-sheet .ensures) (c .before .enum-told .given .1) (c .read-head .ensures))
+    let s = c .before .before .before .before .before .before .args .sheet .now in
+    reported reportOfSheet (c .head-in .ensures ∙ by-known (headIn s) _ (c .before .before .before .before .form-of .ensures) (c .before .before .a .given .1))
 
 returns-2 : tie.Need-returns-2
+unfolding headAnswer
 returns-2 c =
-    let a = c .before .before .before .before .before .args in
-    reported reportOfSheet (head-refused 2 (a .sheet .now) (c .before .before .before .check-sheet .ensures) (c .before .v .given .1))
+    let s = c .before .before .before .before .args .sheet .now in
+    reported reportOfSheet (by-none (headIn s) _ (c .before .before .form-of .ensures) (c .enum-told .given .1))
 
 pub sheet-head-spec : {M : Type 1} → statement M
 sheet-head-spec =
-    tie.close
-    (tie.spec check-sheet-requires enum-told read-head-requires enum-known-v returns returns-2)
+    tie.close (tie.spec form-of-requires enum-known-a head-in-requires enum-told returns returns-2)

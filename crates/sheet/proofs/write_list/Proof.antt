@@ -3,19 +3,20 @@ use borrow.Author.Needs.{needs}
 use lib.ListN.{drop, length}
 use lib.Seq.{sets}
 use mathlib.Core.Path.{_∙_, _≡_, refl, sym}
+use native.Mathlib.Nat.{add-zero}
 use Rattle.sheet.proofs.Addresses.{write-end, write-next}
-use Rattle.sheet.specs.Sheet.{addressBytes, headLength}
+use Rattle.sheet.specs.Sheet.{addressBytes}
 use Rattle.sheet.proofs.write_list.Statement.{statement}
 use Rattle.sheet.proofs.write_list.Tie as tie
 
 abbrev Inv-loop : tie.InvT-loop
-Inv-loop list sheet₀ i₀ sheet i = (i ≤ length list) × (length sheet ≡ length sheet₀) × (sets sheet (headLength 2 + i * 8) (addressBytes (drop i list)) ≡ sets sheet₀ (headLength 2) (addressBytes list))
+Inv-loop list start sheet₀ i₀ sheet i = (i ≤ length list) × (length sheet ≡ length sheet₀) × (sets sheet (start + i * 8) (addressBytes (drop i list)) ≡ sets sheet₀ start (addressBytes list))
 
 abbrev μ-loop : tie.MeasureT-loop
-μ-loop list sheet₀ i₀ sheet i = length list - i
+μ-loop list start sheet₀ i₀ sheet i = length list - i
 
 loop-holds : tie.Need-loop-holds Inv-loop μ-loop
-loop-holds c = (search needs, refl, refl)
+loop-holds c = (search needs, refl, rw add-zero refl)
 
 mul-put64 : tie.Need-mul-put64 Inv-loop μ-loop
 mul-put64 c = search needs
@@ -42,7 +43,7 @@ loop-again : tie.Need-loop-again Inv-loop μ-loop
 loop-again c =
     let l = c .before .before .before .before .before .before in
     let a = l .before .before .before .args in
-    (search needs, search needs, rw (c .before .before .put64 .ensures) (write-next (l .loop .sheet) (a .list .now) (headLength 2) (l .loop .i) (search needs) ∙ l .loop .inv .2))
+    (search needs, search needs, rw (c .before .before .put64 .ensures) (write-next (l .loop .sheet) (a .list .now) (a .start) (l .loop .i) (search needs) ∙ l .loop .inv .2))
 
 same-length : tie.Need-same-length Inv-loop μ-loop
 same-length c = c .before .loop .inv .1
@@ -51,7 +52,7 @@ returns : tie.Need-returns Inv-loop μ-loop
 returns c =
     let l = c .before in
     let a = l .before .before .before .args in
-    sym (write-end (l .loop .sheet) (a .list .now) (headLength 2 + l .loop .i * 8) (l .loop .i) (search needs)) ∙ l .loop .inv .2
+    sym (write-end (l .loop .sheet) (a .list .now) (a .start + l .loop .i * 8) (l .loop .i) (search needs)) ∙ l .loop .inv .2
 
 pub write-list-spec : {M : Type 1} → statement M
 write-list-spec =

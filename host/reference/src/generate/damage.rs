@@ -5,16 +5,17 @@
 //! in one file the one with the lower stage must be given. `ROWS` make whole
 //! cases: symbols, csects, look-ups, plans, buffers and sheets. Those of S-records
 //! are in `records`, those of debugger names in `debug`, those of visibilities in
-//! `visibility`, those of offsets in `offsets`.
+//! `visibility`, those of offsets in `offsets`, those of sizes in `sizes`.
 
 use super::make::{self, top, Aux, Field, Head, Made, Part, Wish};
 use super::plans::{buffers, fitting_plan, past_end, reveal_module, reveal_open};
 use super::rng::Rng;
-use super::{debug, offsets, records, visibility, Op};
+use super::{debug, offsets, records, sizes, visibility, Op};
 use crate::bytes::put;
 use crate::opening::{
     BSS, DATA, DELETED, DWARF, INFO, KINDS, LOADER as LOADER_KIND, OVRFLO, TBSS, TDATA, TEXT,
 };
+use crate::sheet::Form;
 use crate::symbols::{is_debug_class, CM, ER, LD, SD};
 use crate::*;
 
@@ -530,7 +531,7 @@ pub static STEPS: &[Step] = &[
         number: LIMIT,
         stage: 19,
         hurt: |made, rng| {
-            let count = rng.pick(&[4_097, 4_098, 0x0001_0000, 0x8000_0000, 0xFFFF_FFFF]);
+            let count = rng.pick(&[70_001, 70_002, 0x0002_0000, 0x8000_0000, 0xFFFF_FFFF]);
             made.put(made.head(Head::Symbols)?, count);
             of_loader(made, LIMIT, 2)
         },
@@ -540,7 +541,7 @@ pub static STEPS: &[Step] = &[
         number: LIMIT,
         stage: 20,
         hurt: |made, rng| {
-            let count = rng.pick(&[4_097, 4_098, 0x0001_0000, 0x8000_0000, 0xFFFF_FFFF]);
+            let count = rng.pick(&[100_001, 100_002, 0x0002_0000, 0x8000_0000, 0xFFFF_FFFF]);
             made.put(made.head(Head::Relocations)?, count);
             of_loader(made, LIMIT, 3)
         },
@@ -559,7 +560,7 @@ pub static STEPS: &[Step] = &[
                 count,
                 24,
                 32,
-                4_096,
+                LOADER_SYMBOL_LIMIT,
             )?;
             of_loader(made, LOADER, 2)
         },
@@ -580,7 +581,7 @@ pub static STEPS: &[Step] = &[
                 count,
                 each,
                 start,
-                4_096,
+                RELOCATION_LIMIT,
             )?;
             of_loader(made, LOADER, 3)
         },
@@ -1413,7 +1414,7 @@ pub static ROWS: &[Row] = &[
         name: "sheet short",
         number: SHEET,
         make: |rng| {
-            let mut sheet = good_sheet(rng, 2);
+            let mut sheet = good_sheet(rng, Form::Old, 2);
             sheet.truncate(rng.below(20) as usize);
             let list = junk_list(rng, 2);
             hurt(plain(rng), Op::ReadSheet { sheet, list }, SHEET, 0)
@@ -1424,8 +1425,8 @@ pub static ROWS: &[Row] = &[
         number: SHEET,
         make: |rng| {
             let k = rng.below(5) as usize;
-            let mut sheet = good_sheet(rng, k);
-            put(&mut sheet, 0, 2, rng.pick(&[0, 1, 3, 0x0200, 0xFFFF]));
+            let mut sheet = good_sheet(rng, Form::Old, k);
+            put(&mut sheet, 0, 2, rng.pick(&[4, 1, 3, 0x0200, 0xFFFF]));
             if rng.chance(20) {
                 put(&mut sheet, 18, 2, 0xFFFF);
             }
@@ -1438,7 +1439,7 @@ pub static ROWS: &[Row] = &[
         number: SHEET,
         make: |rng| {
             let k = rng.between(1, 5) as usize;
-            let mut sheet = good_sheet(rng, k);
+            let mut sheet = good_sheet(rng, Form::Old, k);
             match rng.below(4) {
                 0 => sheet.push(0),
                 1 => sheet.truncate(20 + 8 * k - 1),
@@ -1460,7 +1461,7 @@ pub static ROWS: &[Row] = &[
         make: |rng| {
             let k = rng.pick(&[4_097u64, 4_098, 0x8000, 0xFFFF]);
             let held = if rng.chance(50) { 0 } else { 4_097 };
-            let mut sheet = good_sheet(rng, held);
+            let mut sheet = good_sheet(rng, Form::Old, held);
             put(&mut sheet, 18, 2, k);
             let list = junk_list(rng, held);
             hurt(plain(rng), Op::ReadSheet { sheet, list }, LIMIT, 2)
@@ -1471,7 +1472,7 @@ pub static ROWS: &[Row] = &[
         number: ROOM,
         make: |rng| {
             let k = rng.below(6) as usize;
-            let sheet = good_sheet(rng, k);
+            let sheet = good_sheet(rng, Form::Old, k);
             let wrong = if k > 0 && rng.chance(50) {
                 k - 1
             } else {
@@ -1485,8 +1486,8 @@ pub static ROWS: &[Row] = &[
         name: "limit sheet writing",
         number: LIMIT,
         make: |rng| {
-            let k = rng.pick(&[4_097, 4_098, 4_100]);
-            let length = rng.pick(&[20, 20 + 8 * k, 20 + 8 * 4_096]);
+            let k = rng.pick(&[70_001, 70_001, 70_100]);
+            let length = rng.pick(&[24, 24 + 8 * k, 24 + 8 * 70_000]);
             let list = junk_list(rng, k);
             let op = Op::WriteSheet {
                 text: rng.next(),
@@ -1502,8 +1503,9 @@ pub static ROWS: &[Row] = &[
         number: ROOM,
         make: |rng| {
             let k = rng.below(6) as usize;
-            let right = 20 + 8 * k;
-            let length = rng.pick(&[0, right - 1, right + 1, right + 8, right - 8]);
+            let right = 24 + 8 * k;
+            // Among them the old form's length.
+            let length = rng.pick(&[0, right - 1, right + 1, right + 8, right - 8, right - 4]);
             let list = junk_list(rng, k);
             let op = Op::WriteSheet {
                 text: rng.next(),
@@ -1526,9 +1528,14 @@ pub fn records_count() -> usize {
     base_count() + records::ROWS.len()
 }
 
+/// How many damages there are with those of symbols and offsets.
+pub fn symbols_count() -> usize {
+    records_count() + debug::ROWS.len() + visibility::ROWS.len() + offsets::ROWS.len()
+}
+
 /// How many damages there are in all.
 pub fn count() -> usize {
-    records_count() + debug::ROWS.len() + visibility::ROWS.len() + offsets::ROWS.len()
+    symbols_count() + sizes::ROWS.len()
 }
 
 /// The rows in their order: document 01, then the requests.
@@ -1538,6 +1545,7 @@ pub fn rows() -> impl Iterator<Item = &'static Row> {
         .chain(debug::ROWS)
         .chain(visibility::ROWS)
         .chain(offsets::ROWS)
+        .chain(sizes::ROWS)
 }
 
 /// The names of all damages.
@@ -1633,7 +1641,7 @@ pub(super) fn rich_with(rng: &mut Rng, change: fn(&mut Wish)) -> Made {
 }
 
 /// A file for cases where it doesn't matter.
-fn plain(rng: &mut Rng) -> Made {
+pub(super) fn plain(rng: &mut Rng) -> Made {
     make::object(rng, &Wish::default())
 }
 
@@ -1967,10 +1975,10 @@ pub(super) fn wrong_length(rng: &mut Rng, buffer: &mut Vec<u8>) {
     buffer.resize(wrong, 0xA5);
 }
 
-pub fn good_sheet(rng: &mut Rng, k: usize) -> Vec<u8> {
-    let mut sheet = rng.bytes(20 + 8 * k);
-    put(&mut sheet, 0, 2, 2);
-    put(&mut sheet, 18, 2, k as u64);
+pub fn good_sheet(rng: &mut Rng, form: Form, k: usize) -> Vec<u8> {
+    let mut sheet = rng.bytes(form.length(k as u64) as usize);
+    put(&mut sheet, 0, form.width(), 2);
+    put(&mut sheet, form.second_count(), form.width(), k as u64);
     sheet
 }
 

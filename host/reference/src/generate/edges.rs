@@ -66,7 +66,7 @@ fn sections(count: usize) -> Wish {
 }
 
 fn loader_symbol_limit(rng: &mut Rng) -> Labelled {
-    let count = rng.pick(&[4_095, 4_096, 4_097]);
+    let count = rng.pick(&[69_999, 70_000, 70_001]);
     let wish = Wish {
         loader_symbols: Some(count),
         ..low_and_rich()
@@ -75,7 +75,7 @@ fn loader_symbol_limit(rng: &mut Rng) -> Labelled {
 }
 
 fn relocation_limit(rng: &mut Rng) -> Labelled {
-    let count = rng.pick(&[4_095, 4_096, 4_097]);
+    let count = rng.pick(&[99_999, 100_000, 100_001]);
     let wish = Wish {
         entries: Some(count),
         ..low_and_rich()

@@ -52,6 +52,8 @@ pub struct Wish {
     pub entries: Option<usize>,
     /// Text and data of some thousand bytes.
     pub large: bool,
+    /// Text and data of some hundred thousand bytes.
+    pub huge: bool,
     /// Length of the whole data image, reached by bss.
     pub image: Option<u64>,
     /// Further sections of these kinds.

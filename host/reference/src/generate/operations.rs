@@ -4,6 +4,7 @@ use super::make::Made;
 use super::plans::{any_buffers, fitting_plan, image_op, near, reveal_module, reveal_open};
 use super::rng::Rng;
 use super::{damage, Op};
+use crate::sheet::Form;
 
 /// Operations of every sort for a file.
 pub(super) fn some_ops(rng: &mut Rng, made: &Made) -> Vec<Op> {
@@ -72,7 +73,7 @@ fn move_to_itself(rng: &mut Rng, made: &Made) -> Op {
     }
 }
 
-/// A sheet that is read or written, good most times.
+/// An old sheet that is read, or one that is written, good most times.
 fn sheet_op(rng: &mut Rng) -> Op {
     let k = if rng.chance(4) {
         rng.pick(&[4_095, 4_096, 4_097])
@@ -80,7 +81,7 @@ fn sheet_op(rng: &mut Rng) -> Op {
         rng.below(8) as usize
     };
     if rng.chance(50) {
-        let mut sheet = damage::good_sheet(rng, k);
+        let mut sheet = damage::good_sheet(rng, Form::Old, k);
         if rng.chance(20) {
             let at = rng.below(sheet.len() as u64) as usize;
             sheet[at] = rng.next() as u8;
@@ -99,7 +100,7 @@ fn sheet_op(rng: &mut Rng) -> Op {
         }
     } else {
         let length = if rng.chance(90) {
-            20 + 8 * k
+            Form::New.length(k as u64) as usize
         } else {
             rng.below(100) as usize
         };

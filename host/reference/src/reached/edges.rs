@@ -3,11 +3,48 @@
 use crate::bytes::{by, number};
 use crate::generate::Op;
 use crate::opening::{Summary, DEBUG};
+use crate::sheet::Form;
 use crate::symbols::{is_csect_class, is_debug_class};
-use crate::{open, symbol, walked, Symbol};
+use crate::{module, open, symbol, walked, Symbol};
+
+/// The edges that `op` accepted.
+pub(super) fn accepted(file: &[u8], op: &Op) -> Vec<&'static str> {
+    match op {
+        Op::Module => limit_edges(file),
+        Op::ReadSheet { sheet, list } => sheet_edges(sheet, list.len()),
+        Op::WriteSheet { list, .. } => those(&[
+            ("written sheet of 0", list.is_empty()),
+            ("written sheet of 70,000", list.len() == 70_000),
+        ]),
+        _ => entry_edges(file, op),
+    }
+}
+
+/// Edges of request 10.
+fn limit_edges(file: &[u8]) -> Vec<&'static str> {
+    let (symbols, entries) = match module(file) {
+        Ok(found) => (found.loader_symbols, found.relocations),
+        Err(_) => (0, 0),
+    };
+    those(&[
+        ("70,000 loader symbols", symbols == 70_000),
+        ("100,000 entries", entries == 100_000),
+    ])
+}
+
+fn sheet_edges(sheet: &[u8], k: usize) -> Vec<&'static str> {
+    let old = Form::of(sheet) == Some(Form::Old);
+    those(&[
+        ("old sheet of 0", old && k == 0),
+        ("old sheet of 4,096", old && k == 4_096),
+        ("new sheet of 0", !old && k == 0),
+        ("new sheet of 4,097", !old && k == 4_097),
+        ("new sheet of 70,000", !old && k == 70_000),
+    ])
+}
 
 /// The edges of all entries that `op` read.
-pub(super) fn accepted(file: &[u8], op: &Op) -> Vec<&'static str> {
+fn entry_edges(file: &[u8], op: &Op) -> Vec<&'static str> {
     let Ok(summary) = open(file) else {
         return Vec::new();
     };

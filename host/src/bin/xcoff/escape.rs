@@ -55,7 +55,7 @@ pub fn width(bytes: &[u8]) -> usize {
 /// The bytes of a name that is written as [`name`] shows it; none where a backslash begins nothing of that kind.
 pub fn unescape(shown: &[u8]) -> Option<Vec<u8>> {
     let mut bytes = Vec::new();
-    let mut rest = shown;
+    let mut rest = if shown == b"\"\"" { b"" } else { shown };
     while let Some((&first, after)) = rest.split_first() {
         rest = match (first, after) {
             (b'\\', [b'\\', more @ ..]) => {

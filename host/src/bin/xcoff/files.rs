@@ -11,7 +11,9 @@ use std::path::{Path, PathBuf};
 /// One byte more than is ever accepted: whether it is too much is for the library to say.
 pub const FILE: u64 = 16_777_216 + 1;
 pub const IMAGE: u64 = 16_777_216 + 1;
-pub const SHEET: u64 = 20 + 8 * 4_096 + 1;
+pub const SHEET: u64 = 24 + 8 * 70_000 + 1;
+/// What a file of addresses for imports may have, which only this command reads: as much as a module.
+pub const IMPORTS: u64 = 16_777_216;
 
 /// The first bytes of a file, at most so many.
 pub fn read(path: &Path, most: u64) -> Result<Vec<u8>, Problem> {

@@ -27,6 +27,13 @@ impl Choice {
         }
     }
 
+    pub fn name(&self) -> Option<&[u8]> {
+        match self {
+            Choice::Name(name) => Some(name),
+            Choice::Index(_) => None,
+        }
+    }
+
     /// The import's index; `like` is how one is chosen by it.
     pub fn index(
         &self,
@@ -40,29 +47,38 @@ impl Choice {
                 Choice::Name(name) => row.symbol.is_import() && row.name == name,
             })
             .collect();
-        let usable: Vec<&LoaderRow> = matches
-            .iter()
-            .copied()
-            .filter(|row| takes_address(row))
-            .collect();
-        match (usable.as_slice(), matches.first()) {
-            ([one], _) => Ok(one.index),
-            ([], Some(row)) if row.symbol.is_deferred() => Err(format!(
-                "@{} is a deferred import, which has no address in a plan",
-                row.index
-            )),
-            ([], Some(row)) => Err(format!("@{} is not an import", row.index)),
-            ([], None) => Err(format!(
-                "there is no such import; {}",
-                imports_shown(symbols)
-            )),
-            (many, _) => Err(format!(
-                "{} imports have this name: {}; choose one by its index, as in {}",
-                many.len(),
-                indexes(many),
-                like(many[0].index)
-            )),
-        }
+        only(&matches, symbols, like)
+    }
+}
+
+/// The index of the only one of the symbols that match a choice whose address a plan has.
+pub fn only(
+    matches: &[&LoaderRow],
+    symbols: &[LoaderRow],
+    like: impl FnOnce(u64) -> String,
+) -> Result<u64, String> {
+    let usable: Vec<&LoaderRow> = matches
+        .iter()
+        .copied()
+        .filter(|row| takes_address(row))
+        .collect();
+    match (usable.as_slice(), matches.first()) {
+        ([one], _) => Ok(one.index),
+        ([], Some(row)) if row.symbol.is_deferred() => Err(format!(
+            "@{} is a deferred import, which has no address in a plan",
+            row.index
+        )),
+        ([], Some(row)) => Err(format!("@{} is not an import", row.index)),
+        ([], None) => Err(format!(
+            "there is no such import; {}",
+            imports_shown(symbols)
+        )),
+        (many, _) => Err(format!(
+            "{} imports have this name: {}; choose one by its index, as in {}",
+            many.len(),
+            indexes(many),
+            like(many[0].index)
+        )),
     }
 }
 

@@ -12,6 +12,7 @@ mod explain;
 mod files;
 mod follows;
 mod found;
+mod given;
 mod images;
 mod imports;
 mod listing;

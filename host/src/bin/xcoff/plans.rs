@@ -3,7 +3,8 @@
 use crate::args::{self, Arguments};
 use crate::escape;
 use crate::files;
-use crate::imports::{takes_address, Choice};
+use crate::given;
+use crate::imports::takes_address;
 use crate::listing::{hex, number, word, Cell, Column, Listing};
 use crate::lists::use_word;
 use crate::load::{apart, Loaded, Sheet};
@@ -12,17 +13,16 @@ use crate::problem::Problem;
 use std::ffi::OsStr;
 use std::io;
 use std::os::unix::ffi::OsStrExt;
-use xcoff::{LoaderRow, Plan};
+use xcoff::Plan;
 
 pub fn plan(args: &Arguments) -> Result<(), Problem> {
     let text = address(args, "--text")?;
     let data = address(args, "--data")?;
-    let given = args
-        .each("--import")
-        .map(|value| Given::parse(args, &value[0]))
-        .collect::<Result<Vec<_>, _>>()?;
     let out = args.paths("-o").expect("the syntax asks for it")[0];
-    apart(args, &[("SHEET", out)], &[("FILE", args.path(0))])?;
+    let mut inputs = vec![("FILE", args.path(0))];
+    inputs.extend(args.paths("--imports").map(|paths| ("IMPORTS", paths[0])));
+    apart(args, &[("SHEET", out)], &inputs)?;
+    let given = given::all(args)?;
 
     let file = Loaded::read(args.path(0))?;
     let symbols = xcoff::loader_symbol_table(&file.bytes);
@@ -32,7 +32,8 @@ pub fn plan(args: &Arguments) -> Result<(), Problem> {
         data: data.unwrap_or(file.module.data.address),
         list: symbols.iter().map(|row| row.symbol.value).collect(),
     };
-    place_imports(args, &given, &symbols, &mut plan.list)?;
+    let placed = given::place_imports(&given, &symbols, &mut plan.list);
+    placed.map_err(|text| args.wrong(text))?;
 
     // A sheet that no build would take is of no use: the build itself says so.
     let (_, reached) = file.build(&plan).map_err(|refusal| {
@@ -67,59 +68,6 @@ fn hex_value(args: &Arguments, option: &str, digits: &[u8]) -> Result<u64, Probl
         let text = format!("{option}: {shown} is not a hexadecimal number of at most 64 bits");
         Problem::usage(args.command, text)
     })
-}
-
-/// An address for an import.
-struct Given {
-    choice: Choice,
-    shown: String,
-    address: u64,
-}
-
-impl Given {
-    /// NAME=HEX or @INDEX=HEX. The name may hold `=`, the address may not.
-    fn parse(args: &Arguments, value: &OsStr) -> Result<Given, Problem> {
-        let bytes = value.as_bytes();
-        let wrong = |why: &str| {
-            let text = format!("--import {}: {why}", escape::argument(value));
-            Problem::usage(args.command, text)
-        };
-        let Some(at) = bytes.iter().rposition(|&byte| byte == b'=') else {
-            return Err(wrong("it is neither NAME=HEX nor @INDEX=HEX"));
-        };
-        let (name, digits) = (&bytes[..at], &bytes[at + 1..]);
-        let shown = escape::argument(OsStr::from_bytes(name));
-        let address = hex_value(args, &format!("--import {shown}"), digits)?;
-        let choice = Choice::parse(name).map_err(wrong)?;
-        Ok(Given {
-            choice,
-            shown,
-            address,
-        })
-    }
-}
-
-fn place_imports(
-    args: &Arguments,
-    given: &[Given],
-    symbols: &[LoaderRow],
-    list: &mut [u64],
-) -> Result<(), Problem> {
-    let mut taken = vec![false; list.len()];
-    for import in given {
-        let wrong = |why: String| {
-            let text = format!("--import {}: {why}", import.shown);
-            Problem::usage(args.command, text)
-        };
-        let like = |index: u64| format!("--import @{index}=HEX");
-        let place = import.choice.index(symbols, like).map_err(wrong)? as usize - 3;
-        if taken[place] {
-            return Err(wrong(format!("@{} is given twice", place + 3)));
-        }
-        taken[place] = true;
-        list[place] = import.address;
-    }
-    Ok(())
 }
 
 pub fn sheet(args: &Arguments) -> Result<(), Problem> {

@@ -109,13 +109,14 @@ pub static COMMANDS: [Command; 12] = [
     },
     Command {
         name: "plan",
-        usage: "FILE [--text HEX] [--data HEX] [--import NAME=HEX]... -o SHEET",
+        usage: "FILE [--text HEX] [--data HEX] [--import NAME=HEX]... [--imports IMPORTS] -o SHEET",
         operands: &["FILE"],
         optional: 0,
         options: &[
             flag("--text", &["HEX"]),
             flag("--data", &["HEX"]),
             repeated("--import", &["NAME=HEX"]),
+            flag("--imports", &["IMPORTS"]),
             required("-o", &["SHEET"]),
         ],
         summary: "writes a plan sheet: the addresses of one card",
@@ -323,6 +324,9 @@ overlap on the card is not looked at.
 --import NAME=HEX    the address of an import, its name as listings show it
 --import @INDEX=HEX  the same by the index that listings show, where two imports
                      have one name
+--imports IMPORTS    a file with addresses of imports, each on a line of its own:
+                     NAME HEX or @INDEX HEX. Lines that are empty or begin with #
+                     are left out. An import may be given once, here or there
 -o SHEET             the sheet to write; an old one is replaced whole
 ";
 
@@ -330,6 +334,7 @@ const SHEET: &str = "\
 Prints a plan sheet. With FILE, the module that it is for, also which loader symbol
 each address belongs to; a sheet that does not fit the module is refused. A sheet
 does not name its module: one of another module with as many loader symbols fits.
+Old sheets, with counts of 2 bytes, are read as well as those that plan writes.
 
   xcoff sheet card7.sheet diag.xcoff
 

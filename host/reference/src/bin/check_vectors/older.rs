@@ -2,8 +2,9 @@
 
 use crate::json::{num, Json};
 use reference::bytes::{by, number};
+use reference::opening::LOADER as LOADER_KIND;
 use reference::symbols::{is_csect_class, is_debug_class};
-use reference::{open, Summary};
+use reference::{open, Form, Section, Summary, LOADER_SYMBOL_LIMIT, RELOCATION_LIMIT};
 
 /// Before request 4 the recorded offsets are 0: takes them out of an answer.
 pub fn without_offsets(answer: &Json) -> Json {
@@ -28,6 +29,9 @@ fn no_offset(refusal: &[Json]) -> Json {
 /// Whether no later request changes the answer of this case, offsets aside.
 pub fn stands(case: &Json, file: &[u8]) -> bool {
     let requests = case.get("requests").numbers();
+    if !requests.contains(&10) && !within_old_limits(case, file) {
+        return false;
+    }
     if case.get("op").text() == "list" {
         // The line of a refusal has an offset now.
         return requests.contains(&4) || open(file).is_ok() || file.len() > 65_536;
@@ -41,6 +45,31 @@ pub fn stands(case: &Json, file: &[u8]) -> bool {
     let newer = summary.bits == 32 && summary.opthdr >= 4 && number(file, 22, 2) == 2;
     let types_stand = requests.contains(&9) || !newer || !any_entry(file, &summary, has_csect);
     names_stand && types_stand
+}
+
+/// Before request 10: whether the case has an old sheet, or tables that both the old
+/// limits and the new ones allow or refuse.
+fn within_old_limits(case: &Json, file: &[u8]) -> bool {
+    match case.get("op").text() {
+        "sheet_write" => false,
+        "sheet_read" => Form::of(&case.get("sheet").bytes()) != Some(Form::New),
+        _ => {
+            let sections = open(file).map_or(Vec::new(), |summary| summary.sections);
+            let mut loaders = sections.iter().filter(|s| s.flags == LOADER_KIND);
+            !loaders.any(|loader| between_limits(file, loader))
+        }
+    }
+}
+
+/// Whether one of the two counts is above its old limit and not above its new one.
+fn between_limits(file: &[u8], loader: &Section) -> bool {
+    let raw = loader.raw.clone().unwrap_or(0..0);
+    let count = |at| match raw.len() {
+        12.. => number(file, raw.start + at, 4),
+        _ => 0,
+    };
+    let between = |count: u64, limit| count > 4_096 && count <= limit;
+    between(count(4), LOADER_SYMBOL_LIMIT) || between(count(8), RELOCATION_LIMIT)
 }
 
 /// Whether some entry, auxiliaries read as entries included, is such a one.

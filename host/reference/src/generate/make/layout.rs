@@ -63,6 +63,10 @@ impl Sizes {
             sizes.text = rng.between(1_000, 4_000);
             sizes.data = rng.between(1_000, 4_000);
         }
+        if wish.huge {
+            sizes.text = rng.between(300_000, 400_000);
+            sizes.data = rng.between(300_000, 400_000);
+        }
         if let Some(image) = wish.image {
             sizes.reach(rng, image);
         }

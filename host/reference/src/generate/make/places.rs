@@ -321,6 +321,13 @@ impl Made {
         }
     }
 
+    /// Makes the loader section end with the file.
+    pub fn stretch_loader(&mut self) {
+        self.loader_size = self.bytes.len() - self.loader_at;
+        let size = self.section_field(self.loader, Part::Size);
+        self.put(size, self.loader_size as u64);
+    }
+
     /// The `i`-th loader symbol, from 0.
     pub fn loader_symbol_at(&self, i: usize) -> usize {
         self.loader_symbols_at + 24 * i
