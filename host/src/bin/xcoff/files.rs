@@ -176,7 +176,7 @@ fn is_printed_to(file: &Metadata) -> bool {
 }
 
 /// Where a path leads: symbolic links are followed, so that a link stays and its target is replaced.
-fn place(path: &Path) -> io::Result<PathBuf> {
+pub fn place(path: &Path) -> io::Result<PathBuf> {
     let missing = match fs::canonicalize(path) {
         Err(e) if e.kind() == ErrorKind::NotFound => e,
         found => return found,

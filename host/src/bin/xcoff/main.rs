@@ -18,6 +18,7 @@ mod imports;
 mod listing;
 mod lists;
 mod load;
+mod lock;
 mod output;
 mod plans;
 mod problem;
