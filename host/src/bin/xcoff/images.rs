@@ -91,7 +91,7 @@ impl Made<'_> {
         for (image, path) in IMAGES.into_iter().zip(self.out) {
             image_row(&mut list, self.file, self.sheet, image, Some(path))?;
         }
-        let columns = vec![hex("entry", digits), hex("toc", digits)];
+        let columns = vec![hex("entry_address", digits), hex("toc_address", digits)];
         list.table("reached", columns)?;
         let cell = |address: Option<u64>| address.map_or(Cell::Nothing, Cell::Hex);
         list.row(&[cell(self.reached.entry), cell(self.reached.toc)])
