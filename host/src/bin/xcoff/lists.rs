@@ -119,6 +119,10 @@ fn section_columns(opened: &Opened, sections: &[(Section, &[u8])]) -> Vec<Column
         number("size", greatest(|s| s.size)),
         number("offset", greatest(|s| s.scnptr)),
         word("raw", 3),
+        number("relptr", greatest(|s| s.relptr)),
+        number("nreloc", greatest(|s| s.nreloc)),
+        number("lnnoptr", greatest(|s| s.lnnoptr)),
+        number("nlnno", greatest(|s| s.nlnno)),
         word("name", 0),
     ]
 }
@@ -132,6 +136,10 @@ fn section_row(list: &mut Listing, n: u64, section: &Section, name: &[u8]) -> io
         Cell::Number(section.size),
         Cell::Number(section.scnptr),
         Cell::Flag(section.raw),
+        Cell::Number(section.relptr),
+        Cell::Number(section.nreloc),
+        Cell::Number(section.lnnoptr),
+        Cell::Number(section.nlnno),
         Cell::Name(name),
     ])
 }
