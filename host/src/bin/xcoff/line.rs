@@ -7,12 +7,13 @@ use crate::lined::{Answer, Lined};
 use crate::listing::{hex, number, word, Cell, Column, Listing};
 use crate::lists::digits;
 use crate::load::{Loaded, Sheet};
-use crate::output::{complain, print};
+use crate::output::print;
 use crate::problem::Problem;
+use crate::warnings;
 use std::ffi::OsStr;
 use std::io::{self, BufRead, Read};
 use std::os::unix::ffi::OsStrExt;
-use xcoff::Format;
+use xcoff::{Format, Image};
 
 /// The longest line of standard input that is read.
 const LONGEST: u64 = 256;
@@ -48,6 +49,7 @@ pub fn line(args: &Arguments) -> Result<(), Problem> {
     let sheet = Sheet::read(paths[0])?;
     let file = Loaded::read(path)?;
     file.build_sheet(&sheet)?;
+    warnings::of_sheet(&file, &sheet)?;
     let card = Card {
         lined: &Lined::new(path, &file.bytes)?,
         module: Some((&file, &sheet)),
@@ -77,7 +79,7 @@ impl<'a> Card<'a> {
     fn lines(&self, args: &Arguments, asked: &[Asked]) -> Result<(), Problem> {
         let json = args.has("--json");
         let [Asked::Address(one)] = asked else {
-            return Rows::new(args, self).all(asked, json);
+            return Rows::all(args, self, asked);
         };
         let answer = self.answer(*one)?;
         print(|out| {
@@ -105,8 +107,10 @@ impl<'a> Card<'a> {
         match offset.filter(|offset| *offset < text.size) {
             Some(offset) => Ok(text.address + offset),
             None => {
+                let range = file.range(&sheet.plan, Image::Text);
                 let sheet = escape::argument(sheet.path);
-                Err(self.nowhere(asked, &format!("is not in the text image of {sheet}")))
+                let what = format!("is not in the text image of {sheet} ({range})");
+                Err(self.nowhere(asked, &what))
             }
         }
     }
@@ -123,41 +127,33 @@ impl<'a> Card<'a> {
 struct Rows<'a> {
     args: &'a Arguments,
     card: &'a Card<'a>,
-    count: u64,
-    without: u64,
+    /// The worst status of what was told.
+    status: u8,
     /// What ends the list.
     problem: Option<Problem>,
 }
 
 impl<'a> Rows<'a> {
-    fn new(args: &'a Arguments, card: &'a Card<'a>) -> Rows<'a> {
-        Rows {
+    fn all(args: &'a Arguments, card: &'a Card<'a>, asked: &[Asked]) -> Result<(), Problem> {
+        let mut rows = Rows {
             args,
             card,
-            count: 0,
-            without: 0,
+            status: 0,
             problem: None,
-        }
-    }
-
-    fn all(mut self, asked: &[Asked], json: bool) -> Result<(), Problem> {
+        };
         print(|out| {
-            let mut list = Listing::new(out, json);
-            list.table("lines", columns(self.card.lined.format))?;
+            let mut list = Listing::new(out, args.has("--json"));
+            list.table("lines", columns(card.lined.format))?;
             list.flush()?;
             asked.iter().try_for_each(|one| match one {
-                Asked::Address(address) => self.one(&mut list, *address),
-                Asked::Input => self.input(&mut list),
+                Asked::Address(address) => rows.one(&mut list, *address),
+                Asked::Input => rows.input(&mut list),
             })
         })?;
-        match (self.problem, self.without) {
+        match (rows.problem, rows.status) {
             (Some(problem), _) => Err(problem),
             (None, 0) => Ok(()),
-            (None, without) => Err(Problem::Unequal(vec![format!(
-                "xcoff: {}: {without} of {} addresses without a line",
-                escape::argument(self.card.lined.path),
-                self.count
-            )])),
+            (None, status) => Err(Problem::Told(status)),
         }
     }
 
@@ -165,38 +161,37 @@ impl<'a> Rows<'a> {
         if self.problem.is_some() {
             return Ok(());
         }
-        self.count += 1;
         let answer = self.card.answer(asked);
-        if let Err(problem) = &answer {
-            self.without += 1;
-            complain(&[problem.to_string().trim_end().to_string()]);
+        row(list, asked, answer.as_ref().ok())?;
+        if let Err(problem) = answer {
+            self.status = self.status.max(problem.status());
+            problem.tell(self.args.has("--json"));
         }
-        row(list, asked, answer.as_ref().ok())
+        Ok(())
     }
 
     /// An address on each line; empty ones are left out.
     fn input(&mut self, list: &mut Listing) -> io::Result<()> {
         let mut input = io::stdin().lock();
-        for n in 1.. {
+        let mut lines = 0;
+        while self.problem.is_none() {
+            lines += 1;
             let mut line = Vec::new();
             let read = input.by_ref().take(LONGEST).read_until(b'\n', &mut line);
             match (read, line.trim_ascii()) {
-                (Err(error), _) => {
-                    let problem = Problem::system("cannot read standard input", &error);
-                    self.problem.get_or_insert(problem);
-                }
-                (Ok(0), _) => return Ok(()),
+                (Ok(0), _) => break,
                 (Ok(_), b"") => {}
                 (Ok(_), digits) => match args::hex(digits) {
                     Some(address) => self.one(list, address)?,
                     None => {
-                        let text = format!("standard input, line {n}: {}", no_address(digits));
-                        self.problem.get_or_insert(self.args.wrong(text));
+                        let what = no_address(digits);
+                        let text = format!("standard input, line {lines}: {what}");
+                        self.problem = Some(self.args.wrong(text));
                     }
                 },
-            }
-            if self.problem.is_some() {
-                break;
+                (Err(error), _) => {
+                    self.problem = Some(Problem::system("cannot read standard input", &error));
+                }
             }
         }
         Ok(())

@@ -4,7 +4,7 @@ use crate::args::Arguments;
 use crate::escape;
 use crate::files;
 use crate::listing::{hex, number, word, Cell, Column, Listing};
-use crate::lists::digits;
+use crate::lists::{digits, each, open};
 use crate::output::{print, refused_about, refused_in};
 use crate::problem::Problem;
 use std::io;
@@ -81,8 +81,12 @@ impl<'a> Lined<'a> {
 }
 
 pub fn lines(args: &Arguments) -> Result<(), Problem> {
+    args.number("--section")?;
+    each(args, lines_of)
+}
+
+fn lines_of(args: &Arguments, path: &Path) -> Result<(), Problem> {
     let only = args.number("--section")?;
-    let path = args.path(0);
     let bytes = files::read(path, files::FILE)?;
     let lined = Lined::new(path, &bytes)?;
     let numbers = only.map_or_else(|| lined.texts().collect(), |n| vec![n]);
@@ -91,7 +95,7 @@ pub fn lines(args: &Arguments) -> Result<(), Problem> {
         .map(|&n| Ok((n, refused_in(path, &bytes, xcoff::line_table(&bytes, n))?)))
         .collect::<Result<Vec<_>, Problem>>()?;
     print(|out| {
-        let mut list = Listing::new(out, args.has("--json"));
+        let mut list = open(args, out, path);
         list.table("lines", columns(&lined, &tables))?;
         tables
             .iter()

@@ -15,10 +15,10 @@ use xcoff::{
     SymbolRow, SymbolTable,
 };
 
-type Lister = fn(&Arguments, &Path) -> Result<(), Problem>;
+pub type Lister = fn(&Arguments, &Path) -> Result<(), Problem>;
 
 /// Lists each file; what is wrong with one of several is said, and the others are listed all the same.
-fn each(args: &Arguments, list: Lister) -> Result<(), Problem> {
+pub fn each(args: &Arguments, list: Lister) -> Result<(), Problem> {
     if let [path] = args.operands() {
         return list(args, path);
     }
@@ -44,7 +44,7 @@ fn each(args: &Arguments, list: Lister) -> Result<(), Problem> {
 }
 
 /// A listing of a file, under its name where there are several.
-fn open<'w>(args: &Arguments, out: &'w mut dyn Write, path: &'w Path) -> Listing<'w> {
+pub fn open<'w>(args: &Arguments, out: &'w mut dyn Write, path: &'w Path) -> Listing<'w> {
     let several = args.operands().len() > 1;
     Listing::new(out, args.has("--json")).of(several.then_some(path))
 }

@@ -48,9 +48,6 @@ const fn repeated(name: &'static str, values: &'static [&'static str]) -> Flag {
     }
 }
 
-/// Of operands that may follow: as many as the system passes on.
-const MANY: usize = u32::MAX as usize;
-
 static JSON: [Flag; 1] = [flag("--json", &[])];
 
 /// Options of the commands that write: to end at once where another command is at work, to replace a file of another kind.
@@ -115,7 +112,7 @@ pub static COMMANDS: [Command; 14] = [
         )
     },
     Command {
-        usage: "FILE [--section N] [--json]",
+        usage: "FILE... [--section N] [--json]",
         options: &[flag("--section", &["N"]), flag("--json", &[])],
         ..lister("lines", "the line number tables", LINES, lined::lines)
     },
@@ -123,7 +120,7 @@ pub static COMMANDS: [Command; 14] = [
         name: "line",
         usage: "FILE [--sheet SHEET] [--section N] [--json] ADDRESS...",
         operands: &["FILE", "ADDRESS"],
-        optional: MANY,
+        optional: usize::MAX,
         options: &[
             flag("--sheet", &["SHEET"]),
             flag("--section", &["N"]),
