@@ -93,7 +93,9 @@ fn with_a_sheet_addresses_are_the_cards() {
     );
     for asked in ["fff01040", "fff00fff", "10000150", "0", "ffffffffffffffff"] {
         let shown = u64::from_str_radix(asked, 16).unwrap();
-        let err = format!("xcoff: {MODULE}: {shown:08x} is not in the text image of s\n");
+        let err = format!(
+            "xcoff: {MODULE}: {shown:08x} is not in the text image of s (fff01000-fff0103f)\n"
+        );
         folder.fails(&["line", MODULE, "--sheet", "s", asked], 1, &err);
         folder.fails(
             &["line", MODULE, "--sheet=s", "--section=1", asked],
@@ -106,7 +108,7 @@ fn with_a_sheet_addresses_are_the_cards() {
     assert_eq!(ran.status, Some(1));
     assert!(ran.err.contains("refused 13 0 0: MODULE"), "{}", ran.err);
     folder.copy("exe-imports-32");
-    folder.done(&["plan", "exe-imports-32", "-o", "other"]);
+    folder.done(&["plan", "exe-imports-32", "--recorded", "-o", "other"]);
     let ran = folder.run(&["line", MODULE, "--sheet", "other", "0"]);
     let err =
         "xcoff: other for shr-stabs-32 (addresses: 9, loader symbols: 3): refused 20 2 0: ROOM, ";
@@ -185,13 +187,18 @@ fn of_several_addresses_each_has_a_row() {
     assert_eq!(
         ran.err,
         "xcoff: gas-stabs-32.o: 00000024 is in no text section\n\
-         xcoff: gas-stabs-32.o: 00000040 is in no text section\n\
-         xcoff: gas-stabs-32.o: 2 of 3 addresses without a line\n"
+         xcoff: gas-stabs-32.o: 00000040 is in no text section\n"
     );
     let ran = folder.run(&["line", OBJECT, "24", "8", "--json"]);
     let empty = "{\"table\":\"lines\",\"asked\":\"00000024\",\"section\":null,\"address\":null,\"entry\":null,\"line\":null,\
                  \"absolute\":null,\"symbol\":null,\"function\":null,\"source\":null}";
-    assert_eq!(ran.out.lines().next(), Some(empty));
+    // The reason is an object too, below the row.
+    let reason = "{\"table\":\"problem\",\"status\":1,\"text\":\"xcoff: gas-stabs-32.o: 00000024 is in no text section\"}";
+    let lines: Vec<&str> = ran.out.lines().collect();
+    assert_eq!((lines.len(), &lines[..2]), (3, &[empty, reason][..]));
+    // A single address has no empty row.
+    let ran = folder.run(&["line", OBJECT, "24", "--json"]);
+    assert_eq!((ran.status, ran.out.trim_end()), (Some(1), reason));
 }
 
 /// Runs with a text on standard input.
@@ -307,6 +314,14 @@ section  entry  address   relative  absolute  symbol  function
             "{\"table\":\"lines\",\"section\":1,\"entry\":0,\"address\":null,\"line\":0,\"absolute\":null,\"symbol\":11,\"function\":\".go\"}",
             "{\"table\":\"lines\",\"section\":1,\"entry\":1,\"address\":\"0000000010000200\",\"line\":1,\"absolute\":10,\"symbol\":null,\"function\":null}",
         ]
+    );
+    // Several files, each under its name.
+    let both = folder.run(&["lines", OBJECT, "none", WIDE]);
+    let start = format!("{OBJECT}:\n{expected}\n\n{WIDE}:\nsection  entry  address           ");
+    assert!(
+        both.status == Some(3) && both.out.starts_with(&start),
+        "{}",
+        both.out
     );
     // A file without line tables.
     folder.copy("exe-imports-32");
@@ -437,10 +452,6 @@ fn words_that_make_no_sense() {
         (
             &["lines", OBJECT, "--section="],
             "xcoff: lines: --section: '' is not a decimal number of at most 64 bits",
-        ),
-        (
-            &["lines", OBJECT, "8"],
-            "xcoff: lines: 8 is one argument too many",
         ),
         (
             &["lines", OBJECT, "--sheet", "s"],
