@@ -4,6 +4,7 @@
 //! asked for, or the [`Refusal`] that the rules give. Names are parts of the caller's own file.
 #![deny(unsafe_code)]
 
+mod address_table;
 #[allow(unsafe_code)]
 mod ffi;
 mod follows;
@@ -16,6 +17,7 @@ mod refusal;
 mod source;
 mod tables;
 
+pub use address_table::{AddressTable, TableRow};
 pub use follows::{followed, PlanAddress};
 pub use header::{header_fields, HeaderFields};
 pub use image::{

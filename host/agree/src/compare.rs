@@ -1,6 +1,6 @@
 //! One operation, run by both implementations.
 
-use crate::{images, later, lines, places, read, records};
+use crate::{address_table, images, later, lines, places, read, records};
 use reference::generate::Op;
 use reference::Refusal;
 use std::fmt::Debug;
@@ -62,6 +62,7 @@ fn run_both(file: &[u8], op: &Op) -> Agreement {
             data,
         } => records::read(file, plan, records, (text, data)),
         Op::FindLine { section, address } => lines::find(file, *section, *address),
+        Op::Table(calls) => address_table::calls(file, calls),
         _ if later::is_later(op) => later::alone(file, op),
         _ => read::read(file, op),
     }

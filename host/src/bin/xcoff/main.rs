@@ -29,6 +29,7 @@ mod problem;
 mod records;
 mod shown;
 mod syntax;
+mod table;
 mod values;
 mod warnings;
 mod words;
