@@ -19,6 +19,9 @@ module _ (k : TableKind) (f : Format) where
   abbrev n : ℕ
   n = entryLength k f
 
+  pub some-bytes : 0 < n
+  some-bytes = each-length (λ m. 0 < m) (omega arith) (omega arith) (omega arith) (omega arith) k f
+
   -- the place after entry i is that of the next
   pub next-place : (start i : ℕ) → start + i * n + n ≡ start + suc i * n
   next-place start i = each-length (λ m. start + i * m + m ≡ start + suc i * m) (omega arith) (omega arith) (omega arith) (omega arith) k f
