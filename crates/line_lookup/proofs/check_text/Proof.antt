@@ -1,9 +1,6 @@
 use native.Mathlib.Omega.{arith}
-use borrow.Author.Tests.{eq-eqb, ne-eqb}
-use Rattle.word.proofs.Test.{found}
-use Rattle.refusal.proofs.Order.{told, told-accepted, stop}
+use Rattle.refusal.proofs.Order.{told-accepted}
 use Rattle.section_lookup.proofs.Lookup.{number-known}
-use Rattle.line_lookup.specs.Lookup.{textCheck}
 use Rattle.line_lookup.proofs.Tables.{number-refused, not-text, is-text}
 use borrow.Author.Needs.{needs}
 use Rattle.line_lookup.proofs.check_text.Statement.{statement}
