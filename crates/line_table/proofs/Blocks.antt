@@ -1,21 +1,20 @@
 -- Rows written a block at a time. Assumes nothing.
-use Prim.Native.Nat.{ℕ, zero, suc, _+_, _-_, _*_, _≤_, _<_}
+use Prim.Native.Nat.{ℕ, zero, suc, _+_, _-_, _*_, _≤_}
 use mathlib.Core.Path.{_≡_, refl, sym, ap, _∙_}
 use mathlib.Core.List.{List, _++_, append-assoc, append-nil}
-use native.Mathlib.Nat.{add-zero, zero-mul}
 use native.Mathlib.Omega.{arith}
-use lib.ListN.{length, take, drop, replicate, length-replicate, length-append}
+use lib.ListN.{length, take, replicate, length-replicate}
 use lib.Seq.{sets, length-sets}
 use Rattle.format.specs.declared.Format.{Format}
 use Rattle.format.specs.declared.Format.the-variants.{Xcoff32, Xcoff64}
 use Rattle.update.proofs.Stores.{sets-append, part-stored}
 use Rattle.rows.specs.Rows.{rowsOf}
-use Rattle.rows.proofs.Laws.{Writing, length-rows}
+use Rattle.rows.proofs.Laws.{Writing, length-rows, writing-start, writing-end}
 use Rattle.line.specs.declared.LineBlock.{LineBlock}
 use Rattle.line.specs.declared.LineEntry.{LineEntry}
 use Rattle.line.specs.declared.LineEntry.the-variants.{Function, Line}
 use Rattle.line.specs.Block.{blockRows, added, blockTo}
-use Rattle.line.specs.Line.{lineRow, lineLength, entryAt, entryOf}
+use Rattle.line.specs.Line.{lineRow, lineLength, entryOf}
 use Rattle.line.specs.Search.{Entries}
 use Rattle.line.proofs.Block.{counts}
 use Rattle.line_table.specs.Table.{entryRow}
@@ -24,10 +23,14 @@ use Rattle.line_table.specs.Table.{entryRow}
 
 pub rows-append : (row : ℕ → List ℕ) (m n i : ℕ) → rowsOf row i (m + n) ≡ rowsOf row i m ++ rowsOf row (i + m) n
 unfolding rowsOf
-rows-append row zero n i = let e : i + 0 ≡ i = omega arith in rw e refl
+rows-append row zero n i = let e : i + 0 ≡ i = omega arith in let z : 0 + n ≡ n = omega arith in rw (e, z) refl
 rows-append row (suc m) n i =
-    let e : i + suc m ≡ suc i + m = omega arith in
-    rw (e, rows-append row m n (suc i)) (sym (append-assoc (row i) (rowsOf row (suc i) m) (rowsOf row (suc i + m) n)))
+    let more : suc m + n ≡ suc (m + n) = omega arith in
+    let place : suc i + m ≡ i + suc m = omega arith in
+    ap (rowsOf row i) more
+    ∙ ap (λ (l : List ℕ). row i ++ l) (rows-append row m n (suc i))
+    ∙ ap (λ (z : ℕ). row i ++ (rowsOf row (suc i) m ++ rowsOf row z n)) place
+    ∙ sym (append-assoc (row i) (rowsOf row (suc i) m) (rowsOf row (i + suc m) n))
 
 rows-shift : (row : ℕ → List ℕ) (i k m : ℕ) → rowsOf (λ j. row (i + j)) k m ≡ rowsOf row (i + k) m
 unfolding rowsOf
@@ -64,9 +67,9 @@ added-numbers : (b : LineBlock) (x : LineEntry) → added b x .numbers ≡ sets 
 unfolding added
 added-numbers b x = refl
 
-one-row : (e : Entries) (m : ℕ) → rowsOf (entryRow e) m 1 ≡ lineRow (e m)
+one-row : (e : Entries) (m : ℕ) → rowsOf (entryRow e) (0 + m) 1 ≡ lineRow (e m)
 unfolding rowsOf
-one-row e m = append-nil (lineRow (e m))
+one-row e m = let z : 0 + m ≡ m = omega arith in rw z (append-nil (lineRow (e m)))
 
 block-numbers : (e : Entries) (m : ℕ) → blockTo e m .numbers ≡ stored e m
 unfolding blockTo rowsOf
@@ -87,6 +90,10 @@ block-rows : (e : Entries) (m : ℕ) → m ≤ blockRows → take (3 * m) (block
 block-rows e m h =
     rw (block-numbers e m)
     (part-stored (replicate 24 0) 0 (3 * m) (rowsOf (entryRow e) 0 m) (length-rows (entryRow e) 3 (λ j. row-even (e j)) m 0) (rw (length-replicate {0} {A = ℕ} 24 0) (omega (arith, h))))
+
+-- a block has room for 8 rows
+pub block-room : (e : Entries) (m : ℕ) {b : LineBlock} → b ≡ blockTo e m → length (b .numbers) ≡ 24
+block-room e m q = rw (q, block-numbers e m) (length-sets (replicate 24 0) 0 (rowsOf (entryRow e) 0 m) ∙ length-replicate {0} {A = ℕ} 24 0)
 
 -- the entries from entry i on
 pub place-of : (f : Format) (start i j : ℕ) → start + i * lineLength f + j * lineLength f ≡ start + (i + j) * lineLength f
@@ -114,3 +121,37 @@ rows-fit Xcoff64 start count len h = omega (arith, h)
 
 pub next-block : (f : Format) (start i m : ℕ) {at end : ℕ} → at ≡ start + i * lineLength f → end ≡ at + m * lineLength f → end ≡ start + (i + m) * lineLength f
 next-block f start i m p e = e ∙ rw p (place-of f start i m)
+
+-- ---- the loop over the blocks
+
+pub first-place : (f : Format) (start : ℕ) → start ≡ start + 0 * lineLength f
+first-place Xcoff32 start = omega arith
+first-place Xcoff64 start = omega arith
+
+-- i of the n entries at start are written, and `at` is the place of the next
+pub record Listing (file : List ℕ) (start : ℕ) (f : Format) (n : ℕ) (l₀ l : List ℕ) (at i : ℕ) : Type 0 where
+  pub written : Writing (entryRow (entryOf file start f)) 3 n l₀ l i
+  pub place : at ≡ start + i * lineLength f
+
+module _ (file : List ℕ) (start : ℕ) (f : Format) where
+  abbrev row : ℕ → List ℕ
+  row = entryRow (entryOf file start f)
+
+  even : (j : ℕ) → length (row j) ≡ 3
+  even j = row-even (entryOf file start f j)
+
+  pub listing-start : (n : ℕ) (l : List ℕ) → Listing file start f n l l start 0
+  listing-start n l = record { written = writing-start row 3 even l n; place = first-place f start }
+
+  pub listing-end : {l : List ℕ} (n i at : ℕ) (l₀ : List ℕ) → n ≤ i → length l₀ ≡ 3 * n → Listing file start f n l₀ l at i → l ≡ rowsOf row 0 n
+  listing-end n i at l₀ h e k = writing-end row 3 even l₀ n i h e (k .written)
+
+  module _ (n i m at : ℕ) {l₀ l : List ℕ} (k : Listing file start f n l₀ l at i) (h : m ≤ blockRows) {b : LineBlock} (e : b ≡ blockTo (entryOf file at f) m) where
+    pub block-length : length (take (3 * m) (b .numbers)) ≡ 3 * m
+    block-length = rw (block-of file start f i m (k .place) h e) (length-rows row 3 even m i)
+
+    pub listing-next : {out : List ℕ} {end : ℕ} → i + m ≤ n → out ≡ sets l (i * 3) (take (3 * m) (b .numbers)) → end ≡ at + m * lineLength f → Listing file start f n l₀ out end (i + m)
+    listing-next g o q = record {
+      written = writing-more row 3 even l n i m g (o ∙ ap (sets l (i * 3)) (block-of file start f i m (k .place) h e)) (k .written);
+      place = next-block f start i m (k .place) q;
+    }

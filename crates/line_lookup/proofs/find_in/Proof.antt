@@ -1,4 +1,3 @@
-
 use borrow.Author.Needs.{needs}
 use Rattle.line_lookup.proofs.find_in.Statement.{statement}
 use Rattle.line_lookup.proofs.find_in.Tie as tie

@@ -1,4 +1,3 @@
-
 use borrow.Author.Needs.{needs}
 use Rattle.line_lookup.proofs.lookup_of.Statement.{statement}
 use Rattle.line_lookup.proofs.lookup_of.Tie as tie

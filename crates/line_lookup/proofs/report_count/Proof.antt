@@ -1,4 +1,3 @@
-
 use borrow.Author.Needs.{needs}
 use Rattle.line_lookup.proofs.report_count.Statement.{statement}
 use Rattle.line_lookup.proofs.report_count.Tie as tie

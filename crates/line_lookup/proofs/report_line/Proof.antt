@@ -1,4 +1,3 @@
-
 use borrow.Author.Needs.{needs}
 use Rattle.line_lookup.proofs.report_line.Statement.{statement}
 use Rattle.line_lookup.proofs.report_line.Tie as tie

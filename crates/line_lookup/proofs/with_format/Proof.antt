@@ -1,4 +1,3 @@
-
 use borrow.Author.Needs.{needs}
 use Rattle.line_lookup.proofs.with_format.Statement.{statement}
 use Rattle.line_lookup.proofs.with_format.Tie as tie
