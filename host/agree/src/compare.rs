@@ -29,9 +29,12 @@ pub struct Agreed {
 pub type Agreement = Result<Agreed, Difference>;
 
 /// Compares everything that the operation gives, the buffers afterwards included, and looks at what stands where its
-/// refusals point.
+/// refusals point, if the library has them.
 pub fn compare(file: &[u8], op: &Op) -> Agreement {
     let agreed = run_both(file, op)?;
+    if later::is_later(op) {
+        return Ok(agreed);
+    }
     for refusal in &agreed.refusals {
         places::read(file, refusal)?;
     }
