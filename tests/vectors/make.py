@@ -170,6 +170,29 @@ def line_case(case):
     return "find_line %s = %s" % (words(case, "section", "address"), given)
 
 
+def table_call(call):
+    """A call on the address table. A fill has the module's file."""
+    if call["call"] == "fill":
+        return "fill %x %s %s" % (call["bench"], hexed(file_of(call)), numbers(call["list"]))
+    key = "%x %x %s" % (call["bench"], call["file_id"], bytes_of(call["name"]))
+    return "add %s %x" % (key, call["address"]) if call["call"] == "add" else "%s %s" % (call["call"], key)
+
+
+def table_answer(call, answer):
+    if call["call"] == "fill":
+        return "%s / %s" % (refused(answer[0]) or "filled", numbers(answer[1]))
+    if answer is None:
+        return "done"
+    return refused(answer) or "%x" % answer
+
+
+def table_case(case):
+    """Calls on one table, which starts empty."""
+    answers = [table_answer(*both) for both in zip(case["calls"], case["expect"]["answer"])]
+    assert len(answers) == len(case["calls"])
+    return "table %s = %s" % (" ".join(map(table_call, case["calls"])), " ; ".join(answers))
+
+
 READ = {
     "open": opened, "section": section, "symbol": symbol, "walk": walk, "module": module, "loader_symbol": loader_symbol,
     "csect": lambda c: words(c, "length", "align_log", "type", "smclas"),
@@ -193,6 +216,8 @@ def whole_line(case):
         return record_case(case)
     if case["op"] == "find_line":
         return line_case(case)
+    if case["op"] == "table":
+        return table_case(case)
     answer = case["expect"]["answer"]
     asked = "%s %x" % (case["op"], case["index"]) if "index" in case else case["op"]
     return "%s = %s" % (asked, refused(answer) or READ[case["op"]](answer))
