@@ -66,6 +66,9 @@ impl Commands {
         assert_eq!(self.run("plan fixed --text 1000 --data 80000 --recorded -o fixed.other"), 0);
         assert_eq!(self.run("build fixed fixed.sheet -o fixed.text fixed.data"), 0);
         assert_eq!(self.run("records fixed fixed.sheet -o fixed.srec"), 0);
+        let _ = fs::remove_file("fixed.table");
+        assert_eq!(self.run("table fixed.table new"), 0);
+        assert_eq!(self.run("table fixed.table add 1 1 errno fff01200"), 0);
     }
 
     fn all(&self, input: &[u8]) {
@@ -78,6 +81,7 @@ impl Commands {
             module = status;
         }
         self.lines();
+        self.tables(input, module);
         for address in ["text", "data", "@3", "puts"] {
             let status = self.run(&format!("relocations m --follows {address}"));
             assert!(status == module || module == 0 && status == 2, "{address}: status {status}");
@@ -94,6 +98,21 @@ impl Commands {
         }
         let names = fs::read_dir(".").unwrap().map(|entry| entry.unwrap().file_name());
         assert!(!names.into_iter().any(|name| name.to_string_lossy().ends_with(".tmp")));
+    }
+
+    /// The input as an address table, and one that is filled for it.
+    fn tables(&self, input: &[u8], module: u8) {
+        let listed = self.run("table m list 1");
+        assert_eq!(listed, u8::from(input.len() != xcoff::AddressTable::BYTES));
+        assert_eq!(self.run("table m list 1 --json"), listed);
+        assert!(self.run("table m add 1 1 errno 5") <= 1);
+        assert!(self.run("table m remove 2 1 errno") <= 1);
+        fs::write("m", input).unwrap();
+        let filled = self.run("table fixed.table fill 1 m -o filled.sheet");
+        assert!(filled == module || module == 0 && filled == 1, "{filled} {module}");
+        if module == 0 {
+            assert_eq!(self.run("plan m --table fixed.table --bench 1 -o filled.sheet"), filled);
+        }
     }
 
     /// Line tables: one address is found or not, of several each has a row.
