@@ -140,6 +140,7 @@ pub struct Length {
 }
 
 extern "C" {
+    fn xcoff_version() -> u64;
     fn xcoff_open(file: *const u8, length: usize) -> Open;
     fn xcoff_section(file: *const u8, length: usize, n: u64) -> Section;
     fn xcoff_section_name(file: *const u8, length: usize, n: u64) -> Range;
@@ -251,6 +252,10 @@ extern "C" {
         numbers: usize,
     ) -> Head;
     fn xcoff_import_table(file: *const u8, length: usize, rows: *mut u64, numbers: usize) -> Head;
+}
+
+pub fn version() -> u64 {
+    unsafe { xcoff_version() }
 }
 
 pub fn open(file: &[u8]) -> Open {

@@ -2,18 +2,25 @@
 //!
 //! Every function takes the whole file and judges it from the start. Its answer is settled for any bytes: what was
 //! asked for, or the [`Refusal`] that the rules give. Names are parts of the caller's own file.
+//!
+//! Another Cargo project uses it by a path, and says by the environment variable `XCOFF_LIBRARY_DIR` in which folder
+//! `libxcoff_c.a` is; without it that is `target/staticlib` of the repository.
 #![deny(unsafe_code)]
 
+mod check;
 #[allow(unsafe_code)]
 mod ffi;
 mod follows;
+mod header;
 mod image;
 mod place;
 mod records;
 mod refusal;
 mod tables;
 
+pub use check::{check_images, move_images_checked, Comparison, NotMoved};
 pub use follows::{followed, PlanAddress};
+pub use header::{header_fields, HeaderFields};
 pub use image::{
     build_images, move_images, read_sheet, read_sheet_into, replay, sheet_length, write_sheet,
     write_sheet_into, Call, Plan, Reached, Replayed,
@@ -25,6 +32,11 @@ pub use tables::{
     import_table, loader_symbol_table, relocation_table, symbol_table, Image, ImportId,
     ImportTable, LoaderRow, Relocation, SymbolRow, SymbolTable,
 };
+
+/// The version of the C interface that this package was written for, and that the archive it is linked with has.
+pub fn versions() -> (u64, u64) {
+    (1, ffi::version())
+}
 
 /// XCOFF32 or XCOFF64.
 #[derive(Clone, Copy, Debug, PartialEq, Eq)]
