@@ -30,6 +30,10 @@ pub struct Section {
     pub scnptr: u64,
     pub flag: u64,
     pub raw: u64,
+    pub relptr: u64,
+    pub nreloc: u64,
+    pub lnnoptr: u64,
+    pub nlnno: u64,
 }
 
 #[repr(C)]
@@ -137,6 +141,21 @@ pub struct Replay {
 pub struct Length {
     pub head: Head,
     pub length: u64,
+}
+
+#[repr(C)]
+pub struct Count {
+    pub head: Head,
+    pub count: u64,
+}
+
+#[repr(C)]
+pub struct Line {
+    pub head: Head,
+    pub entry: u64,
+    pub address: u64,
+    pub line: u64,
+    pub symbol: u64,
 }
 
 extern "C" {
@@ -252,6 +271,15 @@ extern "C" {
         numbers: usize,
     ) -> Head;
     fn xcoff_import_table(file: *const u8, length: usize, rows: *mut u64, numbers: usize) -> Head;
+    fn xcoff_find_line(file: *const u8, length: usize, section: u64, address: u64) -> Line;
+    fn xcoff_line_count(file: *const u8, length: usize, section: u64) -> Count;
+    fn xcoff_line_table(
+        file: *const u8,
+        length: usize,
+        section: u64,
+        rows: *mut u64,
+        numbers: usize,
+    ) -> Head;
 }
 
 pub fn version() -> u64 {
@@ -471,4 +499,24 @@ pub fn relocation_table(file: &[u8], rows: &mut [u64]) -> Head {
 
 pub fn import_table(file: &[u8], rows: &mut [u64]) -> Head {
     unsafe { xcoff_import_table(file.as_ptr(), file.len(), rows.as_mut_ptr(), rows.len()) }
+}
+
+pub fn find_line(file: &[u8], section: u64, address: u64) -> Line {
+    unsafe { xcoff_find_line(file.as_ptr(), file.len(), section, address) }
+}
+
+pub fn line_count(file: &[u8], section: u64) -> Count {
+    unsafe { xcoff_line_count(file.as_ptr(), file.len(), section) }
+}
+
+pub fn line_table(file: &[u8], section: u64, rows: &mut [u64]) -> Head {
+    unsafe {
+        xcoff_line_table(
+            file.as_ptr(),
+            file.len(),
+            section,
+            rows.as_mut_ptr(),
+            rows.len(),
+        )
+    }
 }

@@ -13,9 +13,11 @@ mod ffi;
 mod follows;
 mod header;
 mod image;
+mod lines;
 mod place;
 mod records;
 mod refusal;
+mod source;
 mod tables;
 
 pub use check::{check_images, move_images_checked, Comparison, NotMoved};
@@ -25,9 +27,11 @@ pub use image::{
     build_images, move_images, read_sheet, read_sheet_into, replay, sheet_length, write_sheet,
     write_sheet_into, Call, Plan, Reached, Replayed,
 };
+pub use lines::{find_line, line_count, line_table, FoundLine, LineEntry, LineTable};
 pub use place::{places, FieldValue, Place, Value, What};
 pub use records::{read_records, records_length, write_records, write_records_into};
 pub use refusal::Refusal;
+pub use source::{Source, Sources};
 pub use tables::{
     import_table, loader_symbol_table, relocation_table, symbol_table, Image, ImportId,
     ImportTable, LoaderRow, Relocation, SymbolRow, SymbolTable,
@@ -85,6 +89,13 @@ pub struct Section {
     pub scnptr: u64,
     /// Whether there is raw data.
     pub raw: bool,
+    /// Offset of the relocation table in the file, and how many entries it has, as the header has both: 65,535 of an
+    /// XCOFF32 section stands for the count in an overflow header.
+    pub relptr: u64,
+    pub nreloc: u64,
+    /// The same of the line number table.
+    pub lnnoptr: u64,
+    pub nlnno: u64,
 }
 
 #[derive(Clone, Copy, Debug, PartialEq, Eq)]
@@ -219,6 +230,10 @@ pub fn section(file: &[u8], n: u64) -> Result<Section, Refusal> {
         size: a.size,
         scnptr: a.scnptr,
         raw: a.raw != 0,
+        relptr: a.relptr,
+        nreloc: a.nreloc,
+        lnnoptr: a.lnnoptr,
+        nlnno: a.nlnno,
     })
 }
 

@@ -41,6 +41,8 @@ impl Refusal {
             23 => "FORM",
             24 => "CLASH",
             30 => "VISIBILITY",
+            31 => "NOLINE",
+            32 => "GROUP",
             _ => "UNKNOWN",
         }
     }
@@ -54,7 +56,7 @@ impl Refusal {
             3 => limit(i).into(),
             4 => format!("the flags of section {i} are not allowed"),
             5 if i == 0 => "the symbol table or string table passes the file's end".into(),
-            5 => format!("the raw data of section {i} passes the file's end"),
+            5 => format!("the raw data or line table of section {i} passes the file's end, or the table's overflow header is not there exactly once"),
             6 => format!("the addresses of section {i} differ or pass the address space, or it is a bss below the end of data"),
             7 => "the string table has length 1, 2 or 3".into(),
             8 => format!("there is no number {i} of what was asked for"),
@@ -75,6 +77,8 @@ impl Refusal {
             23 => "S-records are for XCOFF32 modules only".into(),
             24 => "the text and data images share an address".into(),
             30 => format!("the type of symbol {i} claims a visibility of 5 to 7, which means nothing"),
+            31 => "no entry of the line table has an address at or below the one asked for".into(),
+            32 => "the line table has a line before any function".into(),
             _ => "no such number".into(),
         }
     }

@@ -38,6 +38,7 @@ static void headers(void)
     EXPECT(o.symbols == 60 && o.opthdr == 72 && o.flags == 0x1206);
     EXPECT(s.paddr == 0x200001a0 && s.vaddr == 0x200001a0 && s.size == 0x60);
     EXPECT(s.scnptr == 0x1a0 && s.flag == 0x40 && s.raw == 1);
+    EXPECT(s.relptr == 1230 && s.nreloc == 20 && s.lnnoptr == 0 && s.nlnno == 0);
     EXPECT(is(xcoff_section_name(file, length, 2), ".data"));
     s = xcoff_section(file, length, 5);
     EXPECT(REFUSED(s, 8, 5, 0) && s.paddr == 0 && s.flag == 0 && s.raw == 0);
@@ -85,6 +86,55 @@ static void visibilities(void)
     EXPECT(ACCEPTED(y) && y.type == 0x5000 && y.has_visibility == 0 && y.visibility == 0);
     file[23] = 2;
     *type = 0;
+}
+
+/* A line table for section 1 behind the file: a function, two lines at one address and one after them. The header of section 1
+   is at 92. */
+static void lines(void)
+{
+    static const uint8_t table[] = {0, 0, 0, 5, 0, 0, 0x10, 0, 1, 4, 0, 1, 0x10, 0, 1, 4, 0, 2, 0x10, 0, 1, 8, 1, 0};
+    uint8_t header[40];
+    uint64_t rows[13];
+    xcoff_line_answer l = xcoff_find_line(file, length, 1, 0x10000104);
+    xcoff_count_answer c = xcoff_line_count(file, length, 1);
+    xcoff_verdict v;
+    EXPECT(REFUSED(l, 31, 0, 0) && l.entry == 0 && l.address == 0 && l.line == 0 && l.symbol == 0);
+    EXPECT(ACCEPTED(c) && c.count == 0);
+    l = xcoff_find_line(file, length, 2, 0x10000104);
+    c = xcoff_line_count(file, length, 2);
+    v = xcoff_line_table(file, length, 2, NULL, 0);
+    EXPECT(REFUSED(l, 8, 2, 0) && SAME_HEAD(l, c) && SAME_HEAD(l, v) && c.count == 0);
+    memcpy(header, file + 92, sizeof header);
+    memcpy(file + length, table, sizeof table);
+    file[92 + 30] = (uint8_t)(length >> 8);
+    file[92 + 31] = (uint8_t)length;
+    file[92 + 35] = 4;
+    l = xcoff_find_line(file, length, 1, 0x10000107);
+    c = xcoff_line_count(file, length + sizeof table - 1, 1);
+    v = xcoff_line_table(file, length, 1, NULL, 0);
+    EXPECT(REFUSED(l, 5, 1, 92) && SAME_HEAD(l, c) && SAME_HEAD(l, v));
+    length += sizeof table;
+    l = xcoff_find_line(file, length, 1, 0x10000107);
+    EXPECT(ACCEPTED(l) && l.entry == 1 && l.address == 0x10000104 && l.line == 1 && l.symbol == 5);
+    l = xcoff_find_line(file, length, 1, UINT64_MAX);
+    EXPECT(ACCEPTED(l) && l.entry == 3 && l.address == 0x10000108 && l.line == 256 && l.symbol == 5);
+    c = xcoff_line_count(file, length, 1);
+    EXPECT(ACCEPTED(c) && c.count == 4);
+    memset(rows, 0x55, sizeof rows);
+    v = xcoff_line_table(file, length, 1, rows, 13);
+    EXPECT(REFUSED(v, 20, 0, 0) && rows[0] == 0x5555555555555555);
+    v = xcoff_line_table(file, length, 1, rows, 12);
+    EXPECT(ACCEPTED(v) && rows[12] == 0x5555555555555555);
+    {
+        const xcoff_line_row *row = (const xcoff_line_row *)rows;
+        EXPECT(row[0].function == 1 && row[0].value == 5 && row[0].line == 0);
+        EXPECT(row[3].function == 0 && row[3].value == 0x10000108 && row[3].line == 256);
+    }
+    file[length - sizeof table + 5] = 1;
+    l = xcoff_find_line(file, length, 1, 0);
+    EXPECT(REFUSED(l, 32, 0, 0));
+    length -= sizeof table;
+    memcpy(file + 92, header, sizeof header);
 }
 
 static void module(void)
@@ -448,6 +498,7 @@ int main(int argc, char **argv)
     headers();
     symbols();
     visibilities();
+    lines();
     module();
     offsets();
     images();

@@ -16,6 +16,8 @@ mod given;
 mod images;
 mod imports;
 mod kinds;
+mod line;
+mod lined;
 mod listing;
 mod lists;
 mod load;
