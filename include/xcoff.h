@@ -4,7 +4,9 @@
  *
  *     cc -Iinclude PROGRAM.c target/staticlib/libxcoff_c.a -o PROGRAM
  *
- * examples/build_images.c is one.
+ * examples/build_images.c and examples/move_images.c are two. xcoff_inline.h has names for the numbers below, plans as
+ * structs and tables by rows; xcoff_words.h the words of a refusal. Where all is installed, `pkg-config --cflags --libs
+ * xcoff` says how to compile.
  *
  * Every function takes the whole file as a pointer and a length, judges it from the start and keeps nothing between
  * calls: nothing has to be opened, closed or checked beforehand, and any bytes are allowed. A file of length 0 may have
@@ -100,6 +102,11 @@
 #ifdef __cplusplus
 extern "C" {
 #endif
+
+/* The version of this interface, and that of the archive: where the two differ, header and archive are not of one
+   installation. It counts up with every change that a program over it could see. */
+#define XCOFF_VERSION 1
+uint64_t xcoff_version(void);
 
 /* The file header. */
 typedef struct xcoff_open_answer {

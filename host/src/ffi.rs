@@ -168,6 +168,7 @@ pub struct Address {
 type Table = [u64; 4_097];
 
 extern "C" {
+    fn xcoff_version() -> u64;
     fn xcoff_open(file: *const u8, length: usize) -> Open;
     fn xcoff_section(file: *const u8, length: usize, n: u64) -> Section;
     fn xcoff_section_name(file: *const u8, length: usize, n: u64) -> Range;
@@ -320,6 +321,10 @@ extern "C" {
     ) -> Head;
     fn xcoff_table_count(table: *const Table, bench: u64) -> Count;
     fn xcoff_table_rows(table: *const Table, bench: u64, rows: *mut u64, numbers: usize) -> Head;
+}
+
+pub fn version() -> u64 {
+    unsafe { xcoff_version() }
 }
 
 pub fn open(file: &[u8]) -> Open {

@@ -2,9 +2,13 @@
 //!
 //! Every function takes the whole file and judges it from the start. Its answer is settled for any bytes: what was
 //! asked for, or the [`Refusal`] that the rules give. Names are parts of the caller's own file.
+//!
+//! Another Cargo project uses it by a path, and says by the environment variable `XCOFF_LIBRARY_DIR` in which folder
+//! `libxcoff_c.a` is; without it that is `target/staticlib` of the repository.
 #![deny(unsafe_code)]
 
 mod address_table;
+mod check;
 #[allow(unsafe_code)]
 mod ffi;
 mod follows;
@@ -18,6 +22,7 @@ mod source;
 mod tables;
 
 pub use address_table::{AddressTable, TableRow};
+pub use check::{check_images, move_images_checked, Comparison, NotMoved};
 pub use follows::{followed, PlanAddress};
 pub use header::{header_fields, HeaderFields};
 pub use image::{
@@ -33,6 +38,11 @@ pub use tables::{
     import_table, loader_symbol_table, relocation_table, symbol_table, Image, ImportId,
     ImportTable, LoaderRow, Relocation, SymbolRow, SymbolTable,
 };
+
+/// The version of the C interface that this package was written for, and that the archive it is linked with has.
+pub fn versions() -> (u64, u64) {
+    (1, ffi::version())
+}
 
 /// XCOFF32 or XCOFF64.
 #[derive(Clone, Copy, Debug, PartialEq, Eq)]

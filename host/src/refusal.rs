@@ -5,7 +5,7 @@ use std::fmt;
 /// A rule's number and the item it names, 0 where it names none. The offset is that of the first byte, in the file, of the
 /// section header or table entry that the item names, of the string table for STRINGS, of the loader section for LOADER
 /// and a module's LIMIT 2 and 3, and 0 for every other. [`places`](crate::places) reads what stands there.
-#[derive(Clone, Copy, Debug, PartialEq, Eq)]
+#[derive(Clone, Copy, PartialEq, Eq)]
 pub struct Refusal {
     pub number: u64,
     pub item: u64,
@@ -101,6 +101,13 @@ impl fmt::Display for Refusal {
             self.name(),
             self.meaning()
         )
+    }
+}
+
+/// The same words, so that an `unwrap` or an assertion tells what is refused.
+impl fmt::Debug for Refusal {
+    fn fmt(&self, f: &mut fmt::Formatter<'_>) -> fmt::Result {
+        write!(f, "{self}")
     }
 }
 

@@ -48,6 +48,14 @@ use srecord::LengthReport;
 use symbol_lookup::SymbolReport;
 use walk::WalkReport;
 
+// Which version of this interface the archive has: XCOFF_VERSION of the header that it was made with.
+#[no_mangle]
+pub extern "C" fn xcoff_version() -> u64
+    ensures { λ r. ⌜ r ≡ 1 ⌝ }
+{
+    1
+}
+
 // Opens a file: its format and how much it holds.
 #[no_mangle]
 pub extern "C" fn xcoff_open(file: &[u8]) -> OpenReport

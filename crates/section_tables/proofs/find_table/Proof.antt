@@ -1,3 +1,4 @@
+use native.Mathlib.Omega.{arith}
 use borrow.Author.Tests.{eq-eqb, ne-eqb}
 use Rattle.word.proofs.Test.{found}
 use Rattle.section_tables.specs.Tables.{tableBy}
@@ -25,14 +26,14 @@ find-overflow-requires c κs = search needs
 
 returns : tie.Need-returns
 unfolding tableBy
-returns c = rw (found (c .before .before .before .before .is-overflowed .ensures) (c .before .before .before .if1 .taken), ← c .before .before .find-overflow .ensures, ne-eqb _ _ (c .if2 .taken))
+returns c = rw (found (c .before .before .before .before .is-overflowed .ensures) (c .before .before .before .if1 .taken), ← c .before .before .find-overflow .ensures, ne-eqb (c .before .before .find-overflow .result .headers) 1 (λ e. omega (arith, c .if2 .taken, e)))
 
 table-at-requires : tie.Need-table-at-requires
 table-at-requires c κs = search needs
 
 returns-2 : tie.Need-returns-2
 unfolding tableBy
-returns-2 c = rw (found (c .before .before .before .before .before .is-overflowed .ensures) (c .before .before .before .before .if1 .taken), ← c .before .before .before .find-overflow .ensures, eq-eqb _ _ (c .before .if2 .left), ← c .before .before .before .before .before .before .header-start .ensures) (c .table-at .ensures)
+returns-2 c = rw (found (c .before .before .before .before .before .is-overflowed .ensures) (c .before .before .before .before .if1 .taken), ← c .before .before .before .find-overflow .ensures, eq-eqb (c .before .before .before .find-overflow .result .headers) 1 (omega (arith, c .before .if2 .left)), ← c .before .before .before .before .before .before .header-start .ensures) (c .table-at .ensures)
 
 header-count-requires : tie.Need-header-count-requires
 header-count-requires c κs = search needs

@@ -302,6 +302,13 @@ pub fn overview() -> String {
     text
 }
 
+/// What the numbers mean that a command ends with.
+pub fn exit_status() -> &'static str {
+    let paragraphs = OVERVIEW_END.split("\n\n");
+    let mut own = paragraphs.filter_map(|words| words.strip_prefix("Exit status: "));
+    own.next().expect("the overview has them")
+}
+
 const OVERVIEW_START: &str = "\
 usage: xcoff COMMAND ARGUMENT...
 
