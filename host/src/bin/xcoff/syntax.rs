@@ -154,7 +154,7 @@ pub static COMMANDS: [Command; 15] = [
     },
     Command {
         name: "table",
-        usage: "TABLE {new | add BENCH ID NAME HEX | remove BENCH ID NAME | find BENCH ID NAME [--json] | list BENCH [--json] | fill BENCH FILE [--text HEX] [--data HEX] -o SHEET [--force]} [--no-wait]",
+        usage: "TABLE {new|add|remove|find|list|fill} [BENCH [ID NAME [HEX] | FILE]] [--text HEX] [--data HEX] [-o SHEET] [--json] [--force] [--no-wait]",
         operands: &["TABLE", "ACTION"],
         optional: 4,
         options: &[
@@ -488,13 +488,14 @@ removes, finds and lists its own rows; none of that shows or changes the other's
   xcoff table share/imports.table add 1 2 puts fff01200
   xcoff table share/imports.table fill 1 diag.xcoff --text 10000 --data 80000 -o card7.sheet
 
-new     makes an empty table; a file that is there is not replaced
-add     adds a row; one that is there gets the new address
-remove  removes a row
-find    lists one row
-list    lists the bench's rows, by id and name
-fill    writes a plan sheet for FILE: imports have the addresses of the bench's rows;
-        those without a row have their recorded address and are listed
+new                     makes an empty table; a file that is there is not replaced
+add BENCH ID NAME HEX   adds a row; one that is there gets the new address
+remove BENCH ID NAME    removes a row
+find BENCH ID NAME      lists one row
+list BENCH              lists the bench's rows, by id and name
+fill BENCH FILE         writes a plan sheet for FILE: imports have the addresses of
+                        the bench's rows; those without a row have their recorded
+                        address and are listed
 
 A command that changes the table holds the lock of its folder while it reads, changes
 and replaces the file, so that two benches lose nothing; another waits for it.
