@@ -1,18 +1,16 @@
 -- What a field of an entry holds after the entry's changes. Assumes nothing.
 use mathlib.Core.Path.{_≡_, refl, sym, _∙_, ap}
 use mathlib.Core.Bool.{Bool, true, false, cond, _&&_, _||_}
-use mathlib.Core.Logic.{inl, inr}
 use mathlib.Core.List.{List, [], _∷_}
 use Prim.Native.Nat.{ℕ, _+_, _%_, _^_, _≤_}
 use native.Mathlib.Omega.{arith}
 use lib.ListN.{length}
-use lib.Dec.{leb, eqb}
-use borrow.Author.Tests.{leb-true, eqb-true}
+use lib.Dec.{eqb}
+use borrow.Author.Tests.{eqb-true}
 use Rattle.word.specs.declared.Field.{Field}
 use Rattle.word.specs.Number.{bytesIn, fieldIn}
 use Rattle.word.proofs.Test.{and-first, and-second}
-use Rattle.update.specs.Update.{Apart}
-use Rattle.update.proofs.Laws.{field-put, field-apart, length-put}
+use Rattle.update.proofs.Laws.{field-put, length-put}
 use Rattle.format.specs.declared.SymbolIndex.{SymbolIndex}
 use Rattle.refusal.specs.declared.Refusal.{Refusal}
 use Rattle.refusal.specs.declared.Verdict.{Verdict}
@@ -21,20 +19,8 @@ use Rattle.refusal.specs.Order.{byVerdict}
 use Rattle.refusal.specs.Refusal.{isRefused}
 use Rattle.symbol.specs.declared.Tables.{Tables}
 use Rattle.symbol.specs.Entry.{entryStart}
+use Rattle.frame.proofs.Fields.{fieldsApart, put-other}
 use Rattle.mend.specs.Mend.{Mend, Change, changeOf, changesBy, put, putAll}
-
--- ---- two fields of one entry
-
-abbrev fieldsApart : Field → Field → Bool
-fieldsApart a b = leb (a .offset + bytesIn (a .width)) (b .offset) || leb (b .offset + bytesIn (b .width)) (a .offset)
-
-fields-apart : (a b : Field) (base : ℕ) → fieldsApart a b ≡ true → Apart (base + a .offset) (bytesIn (a .width)) (base + b .offset) (bytesIn (b .width))
-fields-apart a b base e = by-test (leb (a .offset + bytesIn (a .width)) (b .offset)) refl e
-  where
-    by-test : (t : Bool) → leb (a .offset + bytesIn (a .width)) (b .offset) ≡ t → (t || leb (b .offset + bytesIn (b .width)) (a .offset)) ≡ true
-        → Apart (base + a .offset) (bytesIn (a .width)) (base + b .offset) (bytesIn (b .width))
-    by-test true q h = inl (let k = leb-true (a .offset + bytesIn (a .width)) (b .offset) q in omega arith)
-    by-test false q h = inr (let k = leb-true (b .offset + bytesIn (b .width)) (a .offset) h in omega arith)
 
 abbrev sameField : Field → Field → Bool
 sameField a b = eqb (a .offset) (b .offset) && eqb (bytesIn (a .width)) (bytesIn (b .width))
@@ -68,7 +54,7 @@ module _ (t : Tables) (i : SymbolIndex) where
       let w : bytesIn (m .place .width) ≡ bytesIn (b .width) = eqb-true (bytesIn (m .place .width)) (bytesIn (b .width)) (and-second (eqb (m .place .offset) (b .offset)) _ q) in
       rw (o, w) (field-put (bytesIn (b .width)) (base + b .offset) (m .value) bs n)
   field-set m x b bs false q h n =
-      field-apart (bytesIn (m .place .width)) (base + m .place .offset) (m .value) (bytesIn (b .width)) (base + b .offset) bs (fields-apart (m .place) b base h)
+      put-other (m .place) base (m .value) b bs h
 
   pub field-after : (ms : List Mend) (b : Field) (bs : List ℕ) → placed ms b ≡ true → base + b .offset + bytesIn (b .width) ≤ length bs
       → fieldIn b base (putAll t (changesBy i ms) bs) ≡ after ms b (fieldIn b base bs)

@@ -4,7 +4,6 @@ ghost use Prim.Native.Nat.{_+_, _≤_, _<_};
 ghost use lib.ListN.{length};
 ghost use Rattle.word.specs.Number.{bytesIn};
 ghost use Rattle.format.specs.Layout.{symbolLength};
-ghost use Rattle.update.specs.Update.{putField};
 ghost use Rattle.symbol.specs.Entry.{OpenTables, entryStart};
 ghost use Rattle.mend.specs.Mend.{withoutVisibility};
 ghost use Rattle.mend.specs.Report.{putBytes};
@@ -14,7 +13,6 @@ use refusal::Refusal;
 use symbol::SymbolEntry;
 use symbol::Tables;
 use word::Field;
-use word::Width;
 
 // Which checks refuse an entry.
 pub struct EntryRefusals {
@@ -38,35 +36,13 @@ pub fn refusals_of(file: &[u8], t: Tables, i: SymbolIndex, e: SymbolEntry) -> En
     }
 }
 
-// Sets the field `f` of what starts at `base`; what passes its width is dropped.
-fn put_number(s: &mut [u8], base: usize, f: Field, v: u64)
-    requires { ⌜ base + f .offset + bytesIn (f .width) ≤ length (now s) ⌝ }
-    ensures { λ _. ⌜ now (s .exit) ≡ putField (bytesIn (f .width)) (base + f .offset) v (now (s .entry)) ⌝ }
-{
-    let off = base + f.offset;
-    let width = f.width;
-    match width {
-        Width::One => {
-            s[off] = (v % 256) as u8;
-        }
-        Width::Two => {
-            update::put16(s, off, (v % 65536) as u16);
-        }
-        Width::Four => {
-            update::put32(s, off, (v % 4294967296) as u32);
-        }
-        Width::Eight => {
-            update::put64(s, off, v);
-        }
-    }
-}
-
+// Sets the field `f` of what starts at `base`, where the test holds.
 fn put_if(s: &mut [u8], on: bool, base: usize, f: Field, v: u64)
     requires { ⌜ base + f .offset + bytesIn (f .width) ≤ length (now s) ⌝ }
     ensures { λ _. ⌜ now (s .exit) ≡ putIf on base f v (now (s .entry)) ⌝ }
 {
     if on {
-        put_number(s, base, f, v);
+        file_copy::put_number(s, base, f, v);
     }
 }
 
@@ -113,8 +89,8 @@ fn report_if(report: &mut [u8], on: bool, at: usize, i: SymbolIndex, x: Refusal)
     ensures next { λ r. ⌜ r ≡ at + length (rowIf on i x) ⌝ }
 {
     if on {
-        put_number(report, at, word::four(0), i.0);
-        put_number(report, at, word::four(4), refusal::number(x));
+        file_copy::put_number(report, at, word::four(0), i.0);
+        file_copy::put_number(report, at, word::four(4), refusal::number(x));
         return at + 8;
     }
     at
