@@ -31,7 +31,8 @@ pub struct CountReport {
 // How many changes the tables of an opened file need.
 fn count_tables(file: &[u8], t: Tables) -> u64
     requires { ⌜ OpenTables (now file) t ⌝ }
-    ensures { λ r. ⌜ r ≡ length (changesIn (now (file .entry)) t) ⌝ }
+    ensures value { λ r. ⌜ r ≡ length (changesIn (now (file .entry)) t) ⌝ }
+    ensures bound { λ r. ⌜ r ≤ 4 * t .count ⌝ }
 {
     let count = t.count;
     let mut i: u64 = 0;

@@ -34,7 +34,7 @@ loop-less : tie.Need-loop-less Inv-loop μ-loop
 loop-less c = search needs
 
 loop-again : tie.Need-loop-again Inv-loop μ-loop
-loop-again c = (search needs, shares-more _ (c .before .before .before .before .args .t1) (c .before .before .before .loop .i) (c .before .before .before .loop .inv .1) (c .shares-section .ensures))
+loop-again c = (search needs, shares-more _ (c .before .before .before .before .args .t2) (c .before .before .before .loop .i) (c .before .before .before .loop .inv .1) (c .shares-section .ensures))
 
 returns : tie.Need-returns Inv-loop μ-loop
 returns c = let l = c .before .loop in let e : l .i ≡ c .before .before .args .count = omega arith in rw e at (l .inv .1)
