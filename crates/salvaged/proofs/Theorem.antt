@@ -2,6 +2,7 @@
 use mathlib.Core.Path.{_≡_, refl, sym, _∙_, ap, subst}
 use mathlib.Core.Bool.{Bool, true, false, not}
 use mathlib.Core.List.{List, [], _∷_}
+use mathlib.Core.Logic.{inr}
 use Prim.Native.Nat.{ℕ, _+_, _-_, _*_, _≤_, _<_}
 use native.Mathlib.Decide.{ℕ-discrete}
 use native.Mathlib.Omega.{arith}
@@ -9,6 +10,7 @@ use lib.Dec.{eqb, ltb}
 use lib.ListN.{length, getD}
 use Rattle.word.proofs.Test.{either}
 use Rattle.update.specs.Update.{Bytes}
+use Rattle.update.proofs.Stores.{sets-outside}
 use Rattle.format.specs.declared.Format.{Format}
 use Rattle.format.specs.declared.FileRange.{FileRange}
 use Rattle.format.specs.declared.SymbolIndex.{SymbolIndex}
@@ -18,7 +20,7 @@ use Rattle.refusal.specs.declared.Refusal.the-variants.{Shared}
 use Rattle.refusal.specs.declared.Verdict.{Verdict}
 use Rattle.refusal.specs.declared.Verdict.the-variants as verdict
 use Rattle.refusal.specs.Order.{byVerdict}
-use Rattle.refusal.proofs.Order.{not-accepted, accepted-first, accepted-rest, accepted-test}
+use Rattle.refusal.proofs.Order.{accepted-first, accepted-rest, accepted-test, by-verdict}
 use Rattle.file_header.specs.declared.FileHeader.{FileHeader}
 use Rattle.file_header.specs.Header.{headerAt}
 use Rattle.file_tables.specs.declared.SymbolTable.{SymbolTable}
@@ -49,10 +51,11 @@ use Rattle.frame.proofs.Open.{Reads, opened-reads, reads-opened, open-same, hea
 use Rattle.frame.proofs.Readers.{SameDebug}
 use Rattle.mend.specs.Mend.{Change, putAll}
 use Rattle.mend.specs.Report.{reportBytes, putBytes}
+use Rattle.mend.proofs.Changes.{length-report}
 use Rattle.salvage.specs.declared.CountAnswer.{CountAnswer}
 use Rattle.salvage.specs.declared.CountAnswer.the-variants.{Counted}
 use Rattle.salvage.specs.Salvage.{mendedIn, changesOf, changesIn, changes, salvaged, salvageCount}
-use Rattle.salvage.specs.Answer.{salvageable, countAnswer}
+use Rattle.salvage.specs.Answer.{salvageable, salvageCheck, countAnswer, reportAfter}
 use Rattle.salvaged.specs.Claim.{bitOf, Unset, EachSets}
 use Rattle.salvaged.proofs.Places.{Mended, visited-ascends, changes-local, entries-mended}
 use Rattle.salvaged.proofs.Walk.{walk-reaches, walk-unchanged}
@@ -226,3 +229,15 @@ module _ (file : List ℕ) (accepted : salvageable file ≡ verdict.Accepted) wh
   pub salvaged-counts : countAnswer (salvaged file) ≡ Counted 0
   unfolding countAnswer
   salvaged-counts = rw (salvaged-accepted) (ap (λ (cs : List Change). Counted (length cs)) copy-unchanged)
+
+-- ---- the report buffer behind the rows is untouched, and all of both buffers where salvaging is refused
+
+put-rest : (vs bs : List ℕ) (k : ℕ) → length vs ≤ k → getD (putBytes 0 vs bs) k 0 ≡ getD bs k 0
+unfolding putBytes
+put-rest vs bs k h = sets-outside bs 0 k vs 0 (inr (omega arith))
+
+pub report-rest : (file : List ℕ) (copy : ℕ) (report : List ℕ) (k : ℕ) → 8 * salvageCount file ≤ k → getD (reportAfter file copy report) k 0 ≡ getD report k 0
+unfolding reportAfter
+report-rest file copy report k h =
+    let l = length-report (changes file) in
+    by-verdict (λ bs. getD bs k 0 ≡ getD report k 0) (salvageCheck file copy (length report)) (λ _. put-rest (reportBytes (changes file)) report k (omega arith)) (λ x. refl)
