@@ -62,8 +62,8 @@ impl Commands {
 
     fn prepare(&self) {
         fs::write("fixed", FIXED).unwrap();
-        assert_eq!(self.run("plan fixed -o fixed.sheet"), 0);
-        assert_eq!(self.run("plan fixed --text 1000 --data 80000 -o fixed.other"), 0);
+        assert_eq!(self.run("plan fixed --recorded -o fixed.sheet"), 0);
+        assert_eq!(self.run("plan fixed --text 1000 --data 80000 --recorded -o fixed.other"), 0);
         assert_eq!(self.run("build fixed fixed.sheet -o fixed.text fixed.data"), 0);
         assert_eq!(self.run("records fixed fixed.sheet -o fixed.srec"), 0);
     }
@@ -97,7 +97,7 @@ impl Commands {
 
     /// The input as a file of addresses, which is taken apart before anything is judged.
     fn as_imports(&self) {
-        assert!(self.run("plan fixed --imports m -o other.sheet") <= 2);
+        assert!(self.run("plan fixed --imports m --recorded -o other.sheet") <= 2);
     }
 
     fn as_sheet(&self) {
@@ -139,15 +139,15 @@ impl Commands {
     /// A module: planned, built, moved there and back.
     fn images(&self, input: &[u8]) {
         let hash = input.iter().fold(0xcbf29ce484222325u64, |h, &b| (h ^ b as u64).wrapping_mul(0x100000001b3));
-        assert_eq!(self.run("plan m -o s"), 0);
+        assert_eq!(self.run("plan m --recorded -o s"), 0);
         assert_eq!(self.run("sheet s m"), 0);
         assert_eq!(self.run("build m s -o t d"), 0);
         assert_eq!(self.run("check m s t d"), 0);
         self.records();
-        assert!(self.run("plan m --import @3=ffffffff --text 0 -o s2") <= 2);
+        assert!(self.run("plan m --import @3=ffffffff --text 0 --recorded -o s2") <= 2);
         let shift = if hash & 1 == 0 { 36 } else { hash >> 1 & 31 };
         let planned = self.run(&format!(
-            "plan m --text {:x} --data {:x} -o s2",
+            "plan m --text {:x} --data {:x} --recorded -o s2",
             hash >> shift,
             hash.rotate_left(32) >> shift
         ));

@@ -7,6 +7,7 @@
 #[allow(unsafe_code)]
 mod ffi;
 mod follows;
+mod header;
 mod image;
 mod place;
 mod records;
@@ -14,6 +15,7 @@ mod refusal;
 mod tables;
 
 pub use follows::{followed, PlanAddress};
+pub use header::{header_fields, HeaderFields};
 pub use image::{
     build_images, move_images, read_sheet, read_sheet_into, replay, sheet_length, write_sheet,
     write_sheet_into, Call, Plan, Reached, Replayed,

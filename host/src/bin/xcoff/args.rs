@@ -1,6 +1,7 @@
 //! The command line of one command, taken apart.
 
 use crate::escape;
+use crate::near::nearest;
 use crate::problem::Problem;
 use crate::syntax::{Command, Flag};
 use std::ffi::{OsStr, OsString};
@@ -33,6 +34,10 @@ impl Arguments {
         }
         parsed.complete()?;
         Ok(parsed)
+    }
+
+    pub fn operands(&self) -> &[PathBuf] {
+        &self.operands
     }
 
     /// Operand `n`, which the syntax asks for.
@@ -70,7 +75,11 @@ impl Arguments {
         let (name, joined) = split_option(&word);
         let known = self.command.options.iter().find(|flag| name == flag.name);
         let Some(flag) = known else {
-            return Err(self.wrong(format!("unknown option {}", escape::argument(&word))));
+            let known = self.command.options.iter().map(|flag| flag.name);
+            let near = name.to_str().and_then(|name| nearest(name, known));
+            let meant = near.map_or(String::new(), |near| format!("; did you mean {near}?"));
+            let word = escape::argument(&word);
+            return Err(self.wrong(format!("unknown option {word}{meant}")));
         };
         if !flag.repeated && self.has(flag.name) {
             return Err(self.wrong(format!("{} is given twice", flag.name)));
@@ -120,7 +129,7 @@ impl Arguments {
         if let Some(missing) = names.get(self.operands.len()) {
             return Err(self.wrong(format!("{missing} is missing")));
         }
-        match self.operands.get(names.len() + optional) {
+        match self.operands.get(names.len().saturating_add(optional)) {
             Some(extra) => {
                 let extra = escape::argument(extra);
                 Err(self.wrong(format!("{extra} is one argument too many")))

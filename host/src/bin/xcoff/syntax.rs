@@ -50,6 +50,10 @@ const fn repeated(name: &'static str, values: &'static [&'static str]) -> Flag {
 
 static JSON: [Flag; 1] = [flag("--json", &[])];
 
+/// Options of the commands that write: to end at once where another command is at work, to replace a file of another kind.
+const NO_WAIT: Flag = flag("--no-wait", &[]);
+const FORCE: Flag = flag("--force", &[]);
+
 /// A command that lists a file.
 const fn lister(
     name: &'static str,
@@ -59,9 +63,9 @@ const fn lister(
 ) -> Command {
     Command {
         name,
-        usage: "FILE [--json]",
+        usage: "FILE... [--json]",
         operands: &["FILE"],
-        optional: 0,
+        optional: usize::MAX,
         options: &JSON,
         summary,
         help,
@@ -95,7 +99,7 @@ pub static COMMANDS: [Command; 12] = [
         lists::imports,
     ),
     Command {
-        usage: "FILE [--follows text|data|IMPORT] [--json]",
+        usage: "FILE... [--follows text|data|IMPORT] [--json]",
         options: &[
             flag("--follows", &["text|data|IMPORT"]),
             flag("--json", &[]),
@@ -109,7 +113,7 @@ pub static COMMANDS: [Command; 12] = [
     },
     Command {
         name: "plan",
-        usage: "FILE [--text HEX] [--data HEX] [--import NAME=HEX]... [--imports IMPORTS] -o SHEET",
+        usage: "FILE [--text HEX] [--data HEX] [--import NAME=HEX]... [--imports IMPORTS] [--from OLD] [--recorded] -o SHEET [--force] [--no-wait]",
         operands: &["FILE"],
         optional: 0,
         options: &[
@@ -117,7 +121,11 @@ pub static COMMANDS: [Command; 12] = [
             flag("--data", &["HEX"]),
             repeated("--import", &["NAME=HEX"]),
             flag("--imports", &["IMPORTS"]),
+            flag("--from", &["OLD"]),
+            flag("--recorded", &[]),
             required("-o", &["SHEET"]),
+            FORCE,
+            NO_WAIT,
         ],
         summary: "writes a plan sheet: the addresses of one card",
         help: PLAN,
@@ -135,32 +143,46 @@ pub static COMMANDS: [Command; 12] = [
     },
     Command {
         name: "build",
-        usage: "FILE SHEET -o TEXT DATA",
+        usage: "FILE SHEET -o TEXT DATA [--force] [--no-wait] [--json]",
         operands: &["FILE", "SHEET"],
         optional: 0,
-        options: &[required("-o", &["TEXT", "DATA"])],
+        options: &[
+            required("-o", &["TEXT", "DATA"]),
+            FORCE,
+            NO_WAIT,
+            flag("--json", &[]),
+        ],
         summary: "builds the text and data images for a sheet",
         help: BUILD,
         run: images::build,
     },
     Command {
         name: "move",
-        usage: "FILE FROM TO TEXT DATA [-o TEXT2 DATA2] [--unchecked]",
+        usage: "FILE FROM TO TEXT DATA [-o TEXT2 DATA2] [--keep-changes | --unchecked] [--force] [--no-wait] [--json]",
         operands: &["FILE", "FROM", "TO", "TEXT", "DATA"],
         optional: 0,
-        options: &[flag("-o", &["TEXT2", "DATA2"]), flag("--unchecked", &[])],
+        options: &[
+            flag("-o", &["TEXT2", "DATA2"]),
+            flag("--keep-changes", &[]),
+            flag("--unchecked", &[]),
+            FORCE,
+            NO_WAIT,
+            flag("--json", &[]),
+        ],
         summary: "moves images from one sheet to another",
         help: MOVE,
         run: images::move_images,
     },
     Command {
         name: "check",
-        usage: "FILE SHEET {TEXT DATA | --records RECORDS} [--or SHEET]...",
+        usage: "FILE SHEET {TEXT DATA | --records RECORDS} [--or SHEET]... [--no-wait] [--json]",
         operands: &["FILE", "SHEET"],
         optional: 2,
         options: &[
             flag("--records", &["RECORDS"]),
             repeated("--or", &["SHEET"]),
+            NO_WAIT,
+            flag("--json", &[]),
         ],
         summary: "says whether images or records are those of a sheet",
         help: CHECK,
@@ -168,13 +190,16 @@ pub static COMMANDS: [Command; 12] = [
     },
     Command {
         name: "records",
-        usage: "FILE SHEET [--images TEXT DATA [--unchecked]] -o RECORDS",
+        usage: "FILE SHEET [--images TEXT DATA [--keep-changes | --unchecked]] -o RECORDS [--force] [--no-wait]",
         operands: &["FILE", "SHEET"],
         optional: 0,
         options: &[
             flag("--images", &["TEXT", "DATA"]),
+            flag("--keep-changes", &[]),
             flag("--unchecked", &[]),
             required("-o", &["RECORDS"]),
+            FORCE,
+            NO_WAIT,
         ],
         summary: "writes images as S-records for a PROM programmer",
         help: RECORDS,
@@ -182,10 +207,17 @@ pub static COMMANDS: [Command; 12] = [
     },
     Command {
         name: "images",
-        usage: "FILE SHEET RECORDS [--unchecked] -o TEXT DATA",
+        usage: "FILE SHEET RECORDS [--keep-changes | --unchecked] -o TEXT DATA [--force] [--no-wait] [--json]",
         operands: &["FILE", "SHEET", "RECORDS"],
         optional: 0,
-        options: &[flag("--unchecked", &[]), required("-o", &["TEXT", "DATA"])],
+        options: &[
+            flag("--keep-changes", &[]),
+            flag("--unchecked", &[]),
+            required("-o", &["TEXT", "DATA"]),
+            FORCE,
+            NO_WAIT,
+            flag("--json", &[]),
+        ],
         summary: "reads S-records back into images",
         help: IMAGES,
         run: records::images,
@@ -198,7 +230,27 @@ impl Command {
     }
 
     pub fn help_text(&self) -> String {
-        format!("usage: xcoff {} {}\n\n{}", self.name, self.usage, self.help)
+        format!("{}\n\n{}", self.usage_lines(), self.help)
+    }
+
+    /// Broken before an option where a line gets long.
+    fn usage_lines(&self) -> String {
+        let mut lines = format!("usage: xcoff {}", self.name);
+        let mut width = lines.len();
+        for part in self.usage.split(" [") {
+            let part = match part == self.usage.split(" [").next().unwrap_or("") {
+                true => part.to_string(),
+                false => format!("[{part}"),
+            };
+            if width + 1 + part.len() > 84 {
+                lines.push_str("\n            ");
+                width = 12;
+            }
+            lines.push(' ');
+            lines.push_str(&part);
+            width += 1 + part.len();
+        }
+        lines
     }
 }
 
@@ -222,23 +274,25 @@ S-records for a PROM programmer.
 ";
 
 const OVERVIEW_END: &str = "
-  xcoff COMMAND --help   says more about a command, with an example
-  xcoff --version        prints the version
+  xcoff help COMMAND     says more about a command, with an example
+  xcoff version          prints the version
 
-Exit status: 0 done; 1 refused by a rule, or images that are not the plan's;
-2 a command line that makes no sense; 3 refused by the system (a file that is
-missing or unreadable, a full disk, a closed pipe).
+Exit status: 0 done; 1 refused by a rule, or something given that is not what it
+should be, as images that are not the plan's; 2 a command line that makes no sense;
+3 refused by the system (a file that is missing or unreadable, a full disk, a closed
+pipe, a folder in which another xcoff writes).
 
 A refusal is a line on standard error with 'refused N I O': the number of the
 rule, the item it names and that item's offset in the file, 0 where it is not in
 the file; then the rule's name and what it means. Below it stand the bytes of the
-header or entry that is named, as a hex dump has them, and the fields that the
+header or entry that is named, as a hex dump has them, and the values that the
 rule speaks of.
 
 In listings, addresses, types and flags are hexadecimal, sizes, offsets and
 counts decimal. Names are bytes of the file: a blank, a quote or a byte that
 does not print is \\xNN, a backslash \\\\, the empty name \"\"; a name over 256
-bytes is cut and ends in \\... instead. With --json each row is one object.
+bytes is cut and ends in \\... instead. Of several files each is listed under its
+name. With --json each row is one object, and so is a refusal, after the rows.
 ";
 
 const HEADERS: &str = "\
@@ -292,7 +346,7 @@ a symbol means a deferred import, which no plan gives an address.
 
 const RELOCATIONS: &str = "\
 Lists the relocation entries in the order of the table: the field's recorded
-address, its image and the offset in it, its bits, whether what the symbol moves
+address, the image and the offset in it, its bits, whether what the symbol moves
 by is added or subtracted, the type, and the symbol (0 text, 1 data, 2 bss, from
 3 a loader symbol). Only these fields depend on a plan.
 
@@ -312,12 +366,15 @@ by is added or subtracted, the type, and the symbol (0 text, 1 data, 2 bss, from
 
 const PLAN: &str = "\
 Writes a plan sheet for a module: where its text, its data and its imports are in
-one card's memory. What is not given is as recorded in the file, which for an
-import is mostly 0: 'xcoff imports FILE' lists them, 'xcoff sheet SHEET FILE' shows
-what each got. A sheet that a build would refuse is not written; whether images
-overlap on the card is not looked at.
+one card's memory. What is not given is as recorded in the file. An import that
+would be at address 0 because nobody gave it is most likely forgotten: such imports
+are listed, no sheet is written and the exit status is 1. 'xcoff imports FILE' lists
+all, 'xcoff sheet SHEET FILE' shows what each got. A sheet that a build would refuse
+is not written. Images that overlap on the card, and addresses that are not aligned
+as the module's own, are warned of.
 
   xcoff plan diag.xcoff --text 10000 --data 80000 --import puts=fff01200 -o card7.sheet
+  xcoff plan diag.xcoff --from card7.sheet --data c0000 -o card9.sheet
 
 --text HEX           the text image's address, with or without 0x before it
 --data HEX           the data image's address; bss moves with it
@@ -327,13 +384,19 @@ overlap on the card is not looked at.
 --imports IMPORTS    a file with addresses of imports, each on a line of its own:
                      NAME HEX or @INDEX HEX. Lines that are empty or begin with #
                      are left out. An import may be given once, here or there
+--from OLD           an older sheet of the module: what is not given is as there
+--recorded           leaves imports at address 0 where nobody gave another
 -o SHEET             the sheet to write; an old one is replaced whole
+--force              replaces an XCOFF file too
+--no-wait            ends, with status 3, where another xcoff writes in the folder
 ";
 
 const SHEET: &str = "\
 Prints a plan sheet. With FILE, the module that it is for, also which loader symbol
-each address belongs to; a sheet that does not fit the module is refused. A sheet
-does not name its module: one of another module with as many loader symbols fits.
+each address belongs to; the places of symbols that take no address are shown as
+'-'. A sheet that does not fit the module is refused. A sheet does not name its
+module: one of another module with as many loader symbols fits, and is warned of
+where what 'plan' writes into the places that are ignored is not this module's.
 Old sheets, with counts of 2 bytes, are read as well as those that plan writes.
 
   xcoff sheet card7.sheet diag.xcoff
@@ -344,26 +407,37 @@ Old sheets, with counts of 2 bytes, are read as well as those that plan writes.
 const BUILD: &str = "\
 Builds a module's text and data images for a plan sheet and writes them to TEXT
 and DATA. Both files are written beside, synced and then renamed, so that neither
-is ever seen half-written; old files are replaced. A symbolic link is followed.
+is ever seen half-written; old files are replaced. A symbolic link is followed. The
+line printed has the addresses at which the images are to be written on the card.
+Images that overlap, addresses that are not aligned as the module's own, and a sheet
+that was probably made for another module are warned of.
 
   xcoff build diag.xcoff card7.sheet -o card7.text card7.data
 
 -o TEXT DATA  the files to write
+--force       replaces an XCOFF file or a sheet too
+--no-wait     ends, with status 3, where another xcoff writes in the folder
+--json        prints one object a line
 ";
 
 const MOVE: &str = "\
 Moves the images in TEXT and DATA from the plan of the sheet FROM to that of TO, in
 place or, with -o, into other files. FROM must be the sheet that they are for:
-moving images a second time makes wrong ones. So the relocated fields are compared
-with those of FROM first; where they differ the command shows them, changes nothing
-and exits with 1. Other bytes that are not the module's are kept, with a warning.
-'xcoff check' with --or finds the sheet that images are for, 'xcoff build' makes
-them anew.
+moving images a second time makes wrong ones. So they are compared with those of
+FROM first, byte for byte; where they differ the command says how and which of the
+two sheets they are for, changes nothing and exits with 1. 'xcoff check' with --or
+finds the sheet that images are for, 'xcoff build' makes them anew. Another xcoff
+that writes in the folder is waited for.
 
   xcoff move diag.xcoff card7.sheet card9.sheet card7.text card7.data -o card9.text card9.data
 
 -o TEXT2 DATA2  the files to write; without it TEXT and DATA are replaced
+--keep-changes  bytes outside the relocated fields may differ, as where the card's
+                program wrote; they are kept, with a warning that says where
 --unchecked     moves the images whatever they hold
+--force         replaces an XCOFF file or a sheet too
+--no-wait       ends, with status 3, where another xcoff writes in the folder
+--json          prints one object a line
 ";
 
 const CHECK: &str = "\
@@ -380,6 +454,8 @@ wrong length, or a record that is not as 'xcoff records' writes it, is refused.
 --records RECORDS  a file of S-records, instead of TEXT and DATA
 --or SHEET         another plan that the images may be for; 0 is for any of them,
                    and the line printed says which
+--no-wait          ends, with status 3, where another xcoff writes in the folder
+--json             prints one object a line
 ";
 
 const RECORDS: &str = "\
@@ -390,26 +466,33 @@ address are refused. The file is written beside, synced and then renamed.
 
   xcoff records diag.xcoff card7.sheet -o card7.srec
 
-With --images, images that were built before are written as they are. Their
-relocated fields must be the sheet's, or the command shows them, writes nothing and
-exits with 1. Other bytes that are not the module's are kept, with a warning.
+With --images, images that were built before are written. They must be exactly the
+sheet's, or the command says how they differ, writes nothing and exits with 1.
 
 -o RECORDS          the file to write; an old one is replaced whole
 --images TEXT DATA  the images, instead of a build
+--keep-changes      with --images: bytes outside the relocated fields may differ;
+                    they are written as they are, with a warning that says where
 --unchecked         with --images: writes the images whatever they hold
+--force             replaces an XCOFF file or a sheet too
+--no-wait           ends, with status 3, where another xcoff writes in the folder
 ";
 
 const IMAGES: &str = "\
 Reads S-records into the two images of a module and writes these to TEXT and DATA.
 The records must be exactly those that 'xcoff records' writes for the sheet, but for
 the data bytes, which may be any: the first line that is not is refused (22 RECORD)
-and shown as the file has it, beside that of the sheet's own images. The relocated
-fields must be the sheet's, or the command shows them, writes nothing and exits with
-1. Other bytes that are not the module's are kept, with a warning. So without a
-warning the images are exactly those of the sheet.
+and shown as the file has it, beside that of the sheet's own images. The images must
+be exactly the sheet's, or the command says how they differ, writes nothing and
+exits with 1.
 
   xcoff images diag.xcoff card7.sheet card7.srec -o card7.text card7.data
 
--o TEXT DATA  the files to write; old ones are replaced whole
---unchecked   writes the images whatever they hold
+-o TEXT DATA    the files to write; old ones are replaced whole
+--keep-changes  bytes outside the relocated fields may differ, as where the card's
+                program wrote; they are kept, with a warning that says where
+--unchecked     writes the images whatever they hold
+--force         replaces an XCOFF file or a sheet too
+--no-wait       ends, with status 3, where another xcoff writes in the folder
+--json          prints one object a line
 ";
