@@ -12,6 +12,7 @@ mod image;
 mod place;
 mod records;
 mod refusal;
+mod shared;
 mod tables;
 
 pub use follows::{followed, PlanAddress};
@@ -23,6 +24,7 @@ pub use image::{
 pub use place::{places, FieldValue, Place, Value, What};
 pub use records::{read_records, records_length, write_records, write_records_into};
 pub use refusal::Refusal;
+pub use shared::{shared_in_module, shared_with_symbols, FilePart, FileRange};
 pub use tables::{
     import_table, loader_symbol_table, relocation_table, symbol_table, Image, ImportId,
     ImportTable, LoaderRow, Relocation, SymbolRow, SymbolTable,
