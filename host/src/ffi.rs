@@ -139,6 +139,12 @@ pub struct Length {
     pub length: u64,
 }
 
+#[repr(C)]
+pub struct Count {
+    pub head: Head,
+    pub count: u64,
+}
+
 extern "C" {
     fn xcoff_open(file: *const u8, length: usize) -> Open;
     fn xcoff_section(file: *const u8, length: usize, n: u64) -> Section;
@@ -251,6 +257,15 @@ extern "C" {
         numbers: usize,
     ) -> Head;
     fn xcoff_import_table(file: *const u8, length: usize, rows: *mut u64, numbers: usize) -> Head;
+    fn xcoff_salvage_count(file: *const u8, length: usize) -> Count;
+    fn xcoff_salvage(
+        file: *const u8,
+        length: usize,
+        copy: *mut u8,
+        copy_length: usize,
+        report: *mut u8,
+        report_length: usize,
+    ) -> Count;
 }
 
 pub fn open(file: &[u8]) -> Open {
@@ -466,4 +481,21 @@ pub fn relocation_table(file: &[u8], rows: &mut [u64]) -> Head {
 
 pub fn import_table(file: &[u8], rows: &mut [u64]) -> Head {
     unsafe { xcoff_import_table(file.as_ptr(), file.len(), rows.as_mut_ptr(), rows.len()) }
+}
+
+pub fn salvage_count(file: &[u8]) -> Count {
+    unsafe { xcoff_salvage_count(file.as_ptr(), file.len()) }
+}
+
+pub fn salvage(file: &[u8], copy: &mut [u8], report: &mut [u8]) -> Count {
+    unsafe {
+        xcoff_salvage(
+            file.as_ptr(),
+            file.len(),
+            copy.as_mut_ptr(),
+            copy.len(),
+            report.as_mut_ptr(),
+            report.len(),
+        )
+    }
 }

@@ -164,7 +164,11 @@ fn loader_tables(file: &[u8], format: Format, section: &Range<u64>) -> [FileRang
         table(FilePart::LoaderSymbols, symbols_at, symbols),
         table(FilePart::Relocations, relocations_at, relocations),
         table(FilePart::ImportIds, ids, field((12, 4))),
-        table(FilePart::LoaderStrings, strings, field(by(format, (24, 4), (20, 4)))),
+        table(
+            FilePart::LoaderStrings,
+            strings,
+            field(by(format, (24, 4), (20, 4))),
+        ),
     ]
 }
 
