@@ -17,7 +17,6 @@ pub fn is_later(op: &Op) -> bool {
             | Op::FindLine { .. }
             | Op::Table(_)
             | Op::WriteModule { .. }
-            | Op::Salvage { .. }
     )
 }
 

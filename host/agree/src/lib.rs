@@ -12,6 +12,7 @@ mod places;
 mod read;
 mod records;
 mod run;
+mod salvages;
 mod tables;
 
 pub use compare::{compare, Agreed, Difference};
