@@ -16,10 +16,10 @@ fn damaged() -> Vec<u8> {
 }
 
 const LISTED: &str = "\
-index  refused     field     offset  was         now   means                 name
-   48  NAME        n_offset    2298  2054847098  0     the empty name        \"\"
-   56  AUX         n_numaux    2455  122         3     the auxiliaries left  exactly8
-   56  SECTION     n_scnum     2450  31354       0     no section            exactly8
+index  refused     field     offset  was         now   means          name
+   48  NAME        n_offset    2298  2054847098  0     empty-name     \"\"
+   56  AUX         n_numaux    2455  122         3     what-is-left   exactly8
+   56  SECTION     n_scnum     2450  31354       0     no-section     exactly8
 
 ";
 const DONE: &str = "3 changes in 2 symbols; the walk reads 29 symbols, up to the table's end\n";
@@ -85,15 +85,15 @@ fn json_has_the_copy_and_each_change() {
         lines,
         [
             r#"{"table":"copy","bytes":2631,"changes":3,"changed":2,"symbols":29}"#,
-            r#"{"table":"changes","index":48,"refused":10,"field":"n_offset","offset":2298,"was":2054847098,"now":0,"means":"the empty name","name":""}"#,
-            r#"{"table":"changes","index":56,"refused":9,"field":"n_numaux","offset":2455,"was":122,"now":3,"means":"the auxiliaries left","name":"exactly8"}"#,
-            r#"{"table":"changes","index":56,"refused":11,"field":"n_scnum","offset":2450,"was":31354,"now":0,"means":"no section","name":"exactly8"}"#,
+            r#"{"table":"changes","index":48,"refused":10,"field":"n_offset","offset":2298,"was":2054847098,"now":0,"means":"empty-name","name":""}"#,
+            r#"{"table":"changes","index":56,"refused":9,"field":"n_numaux","offset":2455,"was":122,"now":3,"means":"what-is-left","name":"exactly8"}"#,
+            r#"{"table":"changes","index":56,"refused":11,"field":"n_scnum","offset":2450,"was":31354,"now":0,"means":"no-section","name":"exactly8"}"#,
         ]
     );
     folder.copy("shr-junktype-32");
     let out = folder.done(&words("salvage shr-junktype-32 -o copy --json"));
     let first = out.lines().nth(1).unwrap();
-    assert!(first.contains(r#""refused":30,"field":"n_type","offset":1248,"was":"5d5d","now":"0d5d","means":"no visibility""#), "{first}");
+    assert!(first.contains(r#""refused":30,"field":"n_type","offset":1248,"was":"5d5d","now":"0d5d","means":"no-visibility""#), "{first}");
 }
 
 /// A name is bytes of the file, and no section number is negative but -1 and -2.
@@ -111,7 +111,7 @@ fn names_and_numbers_are_shown_as_listings_show_them() {
         row[..6],
         ["56", "SECTION", "n_scnum", "2450", "-32768", "0"]
     );
-    assert_eq!(row[8], r"a\x1b[2J\x20\x22\\");
+    assert_eq!(row[7], r"a\x1b[2J\x20\x22\\");
 }
 
 /// Of every real file the copy is listed to its end.

@@ -152,7 +152,7 @@ fn changes(list: &mut Listing, fields: &[ChangedField], table: &SymbolTable) -> 
         number("offset", greatest(|field| field.offset)),
         word("was", 10),
         word("now", 4),
-        word("means", 20),
+        word("means", 13),
         word("name", 0),
     ];
     list.table("changes", columns)?;
@@ -188,7 +188,7 @@ fn change_row(list: &mut Listing, field: &ChangedField, name: &[u8]) -> io::Resu
         Cell::Number(field.offset),
         value(&field.was, &was),
         value(&field.now, &now),
-        Cell::Word(has_now(field.change.number)),
+        Cell::Word(meaning(field.change.number)),
         Cell::Name(name),
     ])
 }
@@ -202,11 +202,12 @@ fn value<'t>(value: &Value, text: &'t str) -> Cell<'t> {
     }
 }
 
-fn has_now(number: u64) -> &'static str {
+/// What the new value means, in one word as every cell of a listing.
+fn meaning(number: u64) -> &'static str {
     match number {
-        9 => "the auxiliaries left",
-        10 => "the empty name",
-        11 => "no section",
-        _ => "no visibility",
+        9 => "what-is-left",
+        10 => "empty-name",
+        11 => "no-section",
+        _ => "no-visibility",
     }
 }
