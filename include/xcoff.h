@@ -54,13 +54,14 @@
  *                same
  *   19 PLAN      an image passes the end of the address space, or an       0 text, 1 data, or the import's index
  *                address of XCOFF32 has more than 32 bits
- *   20 ROOM      lent memory not exactly as long as needed                 0 text, sheet, rows or records; 1 data;
- *                                                                          2 list
+ *   20 ROOM      lent memory not exactly as long as needed                 0 text, sheet, rows, records or whole file;
+ *                                                                          1 data; 2 list
  *   21 SHEET     not a plan sheet, or one of the wrong length              0
  *   22 RECORD    a line of the record text is not as it must be, is        the line, from 1
  *                missing, or is one too many
  *   23 FORM      S-records of an XCOFF64 module                            0
  *   24 CLASH     the text and data images share an address                 0
+ *   29 SHARED    parts of the file that must be apart share a byte         0
  *   30 VISIBILITY  a symbol's type claims a visibility of 5 to 7           index
  *
  * The offset of a refusal is that of the first byte, in the file, of what its item names:

@@ -56,7 +56,7 @@ static void refusal(const void *answer, size_t size)
     uint64_t head[3];
     size_t i;
     memcpy(head, answer, sizeof head);
-    PROMISE(head[0] <= 24 || head[0] == 30);
+    PROMISE(head[0] <= 24 || head[0] == 29 || head[0] == 30);
     PROMISE(head[0] == 0 ? head[1] == 0 && head[2] == 0 : head[2] <= length);
     for (i = sizeof head; head[0] != 0 && i < size; i++)
         PROMISE(((const uint8_t *)answer)[i] == 0);
