@@ -26,8 +26,9 @@
  *    2 MAGIC     not 01DF (32 bits) or 01F7 (64 bits)                      0
  *    3 LIMIT     above a limit: 16,777,216 bytes of file; 32 sections;     0 file, 1 sections, 2 loader symbols or
  *                70,000 loader symbols or addresses in a sheet (4,096 in   addresses, 3 relocation entries,
- *                one that begins 0002); 100,000 relocation entries;        4 data image
- *                16,777,216 bytes of data image
+ *                one that begins 0002); 100,000 relocation entries;        4 data image, 5 report
+ *                16,777,216 bytes of data image; or a report of fewer
+ *                bytes than its changes need
  *    4 KIND      section flags not allowed                                 section
  *    5 BOUNDS    raw data, symbol or string table past the file's end      section, or 0
  *    6 ADDRESS   a section's addresses differ or pass the address space;   section
@@ -441,6 +442,33 @@ xcoff_walk_answer xcoff_symbol_table(const uint8_t *file, size_t length, uint64_
 xcoff_verdict xcoff_loader_symbol_table(const uint8_t *file, size_t length, uint64_t *rows, size_t numbers);
 xcoff_verdict xcoff_relocation_table(const uint8_t *file, size_t length, uint64_t *rows, size_t numbers);
 xcoff_verdict xcoff_import_table(const uint8_t *file, size_t length, uint64_t *rows, size_t numbers);
+
+/*
+ * Salvage of damaged symbol tables: a copy of the file in which the walk reaches the table's end. A symbol that is refused
+ * for NAME gets the empty name, by offset 0; for SECTION section 0; for AUX the auxiliary entries that are left; for
+ * VISIBILITY none, the bits 7000 hex of its type being cleared. One symbol may need several of these; the walk goes on by
+ * the auxiliary entries it then has. Every other bit of the copy is the file's.
+ */
+typedef struct xcoff_count_answer {
+    uint64_t number;
+    uint64_t item;
+    uint64_t offset;
+    uint64_t count;
+} xcoff_count_answer;
+
+/* How many changes xcoff_salvage makes. Refusals: those of xcoff_open, SHARED. */
+xcoff_count_answer xcoff_salvage_count(const uint8_t *file, size_t length);
+
+/*
+ * Writes the copy, which has exactly the file's length, and the changes into `report`, 8 bytes each: the symbol's index
+ * and the refusal's number, big-endian in 4 bytes each, in the order of the walk, those of one symbol in the order of its
+ * checks (AUX, SECTION, NAME, VISIBILITY). The answer is how many they are; the rest of the report stays as it was. A
+ * refusal leaves copy and report as they were. The order of refusals: those of xcoff_open; SHARED where the symbol table
+ * shares a byte with the header area or with a debug section's raw data; ROOM 0 for the copy; LIMIT 5 for a report of fewer
+ * than 8 bytes for each change.
+ */
+xcoff_count_answer xcoff_salvage(const uint8_t *file, size_t length, uint8_t *copy, size_t copy_length, uint8_t *report,
+                                 size_t report_length);
 
 #ifdef __cplusplus
 }

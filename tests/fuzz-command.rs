@@ -81,6 +81,7 @@ impl Commands {
             let status = self.run(&format!("relocations m --follows {address}"));
             assert!(status == module || module == 0 && status == 2, "{address}: status {status}");
         }
+        self.salvage(input);
         self.as_sheet();
         self.as_imports();
         self.as_image(input);
@@ -93,6 +94,23 @@ impl Commands {
         }
         let names = fs::read_dir(".").unwrap().map(|entry| entry.unwrap().file_name());
         assert!(!names.into_iter().any(|name| name.to_string_lossy().ends_with(".tmp")));
+    }
+
+    /// A file that opens is salvaged, or its parts share bytes; of the copy every symbol is listed, and nothing is left to mend.
+    fn salvage(&self, input: &[u8]) {
+        let status = self.run("salvage m -o copy --report report");
+        assert!(status <= 1);
+        assert_eq!(self.run("salvage m -o copy --json"), status);
+        let opens = xcoff::open(input).is_ok();
+        assert!(status == 1 || opens);
+        if status == 1 {
+            assert!(!opens || !xcoff::shared_with_symbols(input).is_empty());
+            return;
+        }
+        assert_eq!(self.run("symbols copy"), 0);
+        assert_eq!(self.run("salvage copy -o again --report report"), 0);
+        assert_eq!(fs::read("copy").unwrap(), fs::read("again").unwrap());
+        assert!(fs::read("report").unwrap().is_empty());
     }
 
     /// The input as a file of addresses, which is taken apart before anything is judged.
