@@ -24,6 +24,7 @@ ghost use Rattle.module_table.specs.Table.{tableCheck, tableAfter};
 ghost use Rattle.loader_symbol_table.specs.Rows.{loaderSymbols};
 ghost use Rattle.relocation_table.specs.Rows.{relocations};
 ghost use Rattle.import_table.specs.Imports.{imports};
+ghost use Rattle.salvage.specs.Answer.{countAnswer, salvageAnswer, copyAfter, reportAfter, reportOfCount};
 ghost use Rattle.offset.specs.Report.{reportHead, reportOfRange};
 use csect_lookup::CsectReport;
 use displacement::Addresses;
@@ -38,6 +39,7 @@ use lookup::LoaderSymbolReport;
 use offset::RangeReport;
 use refusal::Head;
 use replay::ReplayReport;
+use salvage::CountReport;
 use section_lookup::SectionReport;
 use sheet::SheetReport;
 use srecord::LengthReport;
@@ -341,4 +343,22 @@ pub extern "C" fn xcoff_import_table(file: &[u8], rows: &mut [u64]) -> Head
     ensures rows { λ _. ⌜ now (rows .exit) ≡ tableAfter imports (now (file .entry)) (now (rows .entry)) ⌝ }
 {
     offset::report_head(file, import_table::import_table(file, rows))
+}
+
+// How many changes salvaging the symbol table of a file makes.
+#[no_mangle]
+pub extern "C" fn xcoff_salvage_count(file: &[u8]) -> CountReport
+    ensures { λ r. ⌜ r ≡ reportOfCount (now (file .entry)) (countAnswer (now (file .entry))) ⌝ }
+{
+    salvage::report_count(file, salvage::salvage_count(file))
+}
+
+// Writes a copy in which the walk reaches the table's end, and 8 bytes of report for each change.
+#[no_mangle]
+pub extern "C" fn xcoff_salvage(file: &[u8], copy: &mut [u8], report: &mut [u8]) -> CountReport
+    ensures answer { λ r. ⌜ r ≡ reportOfCount (now (file .entry)) (salvageAnswer (now (file .entry)) (length (now (copy .entry))) (length (now (report .entry)))) ⌝ }
+    ensures copied { λ _. ⌜ now (copy .exit) ≡ copyAfter (now (file .entry)) (now (copy .entry)) (length (now (report .entry))) ⌝ }
+    ensures reported { λ _. ⌜ now (report .exit) ≡ reportAfter (now (file .entry)) (length (now (copy .entry))) (now (report .entry)) ⌝ }
+{
+    salvage::report_count(file, salvage::salvage(file, copy, report))
 }

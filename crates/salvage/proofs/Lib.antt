@@ -1,0 +1,3 @@
+-- The laws of salvaging.
+pub mod Turn
+pub mod Answer
