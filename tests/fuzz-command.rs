@@ -98,9 +98,9 @@ impl Commands {
 
     /// A file that opens is salvaged, or its parts share bytes; of the copy every symbol is listed, and nothing is left to mend.
     fn salvage(&self, input: &[u8]) {
-        let status = self.run("salvage m -o copy --report report");
+        let status = self.run("salvage m -o copy --report report --force");
         assert!(status <= 1);
-        assert_eq!(self.run("salvage m -o copy --json"), status);
+        assert_eq!(self.run("salvage m -o copy --force --json"), status);
         let opens = xcoff::open(input).is_ok();
         assert!(status == 1 || opens);
         if status == 1 {
@@ -108,7 +108,7 @@ impl Commands {
             return;
         }
         assert_eq!(self.run("symbols copy"), 0);
-        assert_eq!(self.run("salvage copy -o again --report report"), 0);
+        assert_eq!(self.run("salvage copy -o again --report report --force"), 0);
         assert_eq!(fs::read("copy").unwrap(), fs::read("again").unwrap());
         assert!(fs::read("report").unwrap().is_empty());
     }

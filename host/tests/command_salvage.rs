@@ -84,14 +84,14 @@ fn json_has_the_copy_and_each_change() {
     assert_eq!(
         lines,
         [
-            r#"{"table":"copy","bytes":2631,"changes":3,"changed":2,"symbols":29}"#,
-            r#"{"table":"changes","index":48,"refused":10,"field":"n_offset","offset":2298,"was":2054847098,"now":0,"means":"empty-name","name":""}"#,
-            r#"{"table":"changes","index":56,"refused":9,"field":"n_numaux","offset":2455,"was":122,"now":3,"means":"what-is-left","name":"exactly8"}"#,
-            r#"{"table":"changes","index":56,"refused":11,"field":"n_scnum","offset":2450,"was":31354,"now":0,"means":"no-section","name":"exactly8"}"#,
+            r#"{"table":"copy","path":"copy","size":2631,"changes":3,"changed":2,"symbols":29}"#,
+            r#"{"table":"changes","index":48,"refused":10,"field":"n_offset","offset":2298,"was":"2054847098","now":"0","means":"empty-name","name":""}"#,
+            r#"{"table":"changes","index":56,"refused":9,"field":"n_numaux","offset":2455,"was":"122","now":"3","means":"what-is-left","name":"exactly8"}"#,
+            r#"{"table":"changes","index":56,"refused":11,"field":"n_scnum","offset":2450,"was":"31354","now":"0","means":"no-section","name":"exactly8"}"#,
         ]
     );
     folder.copy("shr-junktype-32");
-    let out = folder.done(&words("salvage shr-junktype-32 -o copy --json"));
+    let out = folder.done(&words("salvage shr-junktype-32 -o copy --force --json"));
     let first = out.lines().nth(1).unwrap();
     assert!(first.contains(r#""refused":30,"field":"n_type","offset":1248,"was":"5d5d","now":"0d5d","means":"no-visibility""#), "{first}");
 }
@@ -127,7 +127,7 @@ fn every_real_file_is_salvaged() {
         }
         let file = fs::read(&path).unwrap();
         folder.write("file", &file);
-        let ran = folder.run(&words("salvage file -o copy"));
+        let ran = folder.run(&words("salvage file -o copy --force"));
         let opened = xcoff::open(&file);
         assert_eq!(
             ran.status,
@@ -151,7 +151,9 @@ fn what_does_not_open_is_refused_and_nothing_is_written() {
     folder.write("copy", b"older");
     folder.write("no", b"\x01\xE0 no such magic number");
     let err = "xcoff: no: refused 2 0 0: MAGIC, the file starts with neither 01DF nor 01F7\n";
-    folder.fails(&words("salvage no -o copy --report report"), 1, err);
+    let ran = folder.run(&words("salvage no -o copy --report report"));
+    assert!(ran.err.starts_with(err), "{}", ran.err);
+    assert_eq!((ran.status, ran.out.as_str()), (Some(1), ""));
     let mut file = damaged();
     file[92 + 36..92 + 40].fill(0x55);
     folder.write("card", &file);
@@ -187,6 +189,32 @@ fn parts_that_share_bytes_are_named() {
     );
     assert_eq!((ran.status, lines.len()), (Some(1), 2));
     assert_eq!(folder.names(), ["card"]);
+}
+
+/// A copy may be another card's, and looks like any other file: it is replaced on demand only.
+#[test]
+fn another_xcoff_file_is_replaced_with_force_only() {
+    let folder = bench();
+    folder.copy("shr-junktype-32");
+    let old = folder.read("shr-junktype-32");
+    let line = "salvage card -o shr-junktype-32 --report report";
+    let kept = "is an XCOFF file and would be replaced by";
+    folder.fails(
+        &words(line),
+        1,
+        &format!("xcoff: shr-junktype-32 {kept} a copy of another; nothing is changed (--force replaces it)\n"),
+    );
+    folder.fails(
+        &words("salvage card -o copy --report shr-junktype-32"),
+        1,
+        &format!(
+            "xcoff: shr-junktype-32 {kept} a report; nothing is changed (--force replaces it)\n"
+        ),
+    );
+    assert_eq!(folder.read("shr-junktype-32"), old);
+    assert_eq!(folder.names(), ["card", "shr-junktype-32"]);
+    folder.done(&words(&format!("{line} --force")));
+    assert_eq!(folder.read("shr-junktype-32").len(), 2631);
 }
 
 #[test]

@@ -3,15 +3,17 @@
 use crate::args::Arguments;
 use crate::escape;
 use crate::files;
+use crate::kinds::{may_replace, Written};
 use crate::listing::{number, word, Cell, Listing};
 use crate::load::apart;
+use crate::lock;
 use crate::output::{print_done, refused_in};
 use crate::problem::Problem;
 use crate::shown;
 use std::collections::BTreeSet;
 use std::io;
 use std::path::Path;
-use xcoff::{ChangedField, Refusal, Salvaged, SymbolTable, Value};
+use xcoff::{ChangedField, Refusal, Salvaged, SymbolTable};
 
 pub fn salvage(args: &Arguments) -> Result<(), Problem> {
     let path = args.path(0);
@@ -20,6 +22,8 @@ pub fn salvage(args: &Arguments) -> Result<(), Problem> {
     let mut outputs = vec![("COPY", copy)];
     outputs.extend(report.map(|report| ("REPORT", report)));
     apart(args, &outputs, &[("FILE", path)])?;
+    let paths: Vec<&Path> = outputs.iter().map(|(_, path)| *path).collect();
+    let _lock = lock::to_write(args, &paths)?;
 
     let file = files::read(path, files::FILE)?;
     let salvaged = judged(path, &file, xcoff::salvage(&file))?;
@@ -28,6 +32,10 @@ pub fn salvage(args: &Arguments) -> Result<(), Problem> {
     // Before anything is written the copy is opened and walked as any other file.
     let table = reread(copy, &file, &salvaged)?;
 
+    may_replace(args, copy, Written::Copy)?;
+    if let Some(report) = report {
+        may_replace(args, report, Written::Report)?;
+    }
     let mut written = vec![(copy, salvaged.copy.as_slice())];
     written.extend(report.map(|report| (report, salvaged.report.as_slice())));
     files::replace(&written)?;
@@ -36,7 +44,7 @@ pub fn salvage(args: &Arguments) -> Result<(), Problem> {
     print_done(&line, |out| {
         let mut list = Listing::new(out, json);
         if json {
-            copy_row(&mut list, &salvaged, &fields, &table)?;
+            copy_row(&mut list, copy, &salvaged, &fields, &table)?;
         }
         changes(&mut list, &fields, &table)?;
         match (json, fields.is_empty()) {
@@ -47,16 +55,16 @@ pub fn salvage(args: &Arguments) -> Result<(), Problem> {
     })
 }
 
-/// A refusal shows what stands where it points; SHARED, which points nowhere, what shares bytes.
+/// SHARED, which points nowhere, is shown with what shares bytes.
 fn judged<T>(path: &Path, file: &[u8], answer: Result<T, Refusal>) -> Result<T, Problem> {
-    answer.map_err(|refusal| Problem::Refused {
-        about: escape::argument(path),
-        refusal,
-        shown: match refusal.number {
-            29 => shown::shared(&xcoff::shared_with_symbols(file)),
-            _ => shown::lines(file, &refusal),
-        },
-    })
+    match answer {
+        Err(refusal) if refusal.number == 29 => Err(Problem::Refused {
+            about: escape::argument(path),
+            refusal,
+            shown: shown::shared(&xcoff::shared_with_symbols(file)),
+        }),
+        answer => refused_in(path, file, answer),
+    }
 }
 
 /// The copy's symbols: it opens as the file does, its walk reaches the table's end and nothing in it is left to change.
@@ -123,20 +131,26 @@ fn symbols(fields: &[ChangedField]) -> u64 {
 /// For programs, what the last line says to people.
 fn copy_row(
     list: &mut Listing,
+    path: &Path,
     salvaged: &Salvaged,
     fields: &[ChangedField],
     table: &SymbolTable,
 ) -> io::Result<()> {
-    let numbers = [
-        salvaged.copy.len() as u64,
-        fields.len() as u64,
-        symbols(fields),
-        table.walk.visited,
+    let columns = vec![
+        word("path", 0),
+        number("size", 0),
+        number("changes", 0),
+        number("changed", 0),
+        number("symbols", 0),
     ];
-    let names = ["bytes", "changes", "changed", "symbols"];
-    let columns = names.iter().map(|name| number(name, 0)).collect();
     list.table("copy", columns)?;
-    list.row(&numbers.map(Cell::Number))
+    list.row(&[
+        Cell::Path(path),
+        Cell::Number(salvaged.copy.len() as u64),
+        Cell::Number(fields.len() as u64),
+        Cell::Number(symbols(fields)),
+        Cell::Number(table.walk.visited),
+    ])
 }
 
 /// Each change: the symbol, what it was refused for, the field, and what stands there now.
@@ -186,20 +200,11 @@ fn change_row(list: &mut Listing, field: &ChangedField, name: &[u8]) -> io::Resu
         Cell::Named(refusal.number as i64, Some(refusal.name())),
         Cell::Word(field.name),
         Cell::Number(field.offset),
-        value(&field.was, &was),
-        value(&field.now, &now),
+        Cell::Name(was.as_bytes()),
+        Cell::Name(now.as_bytes()),
         Cell::Word(meaning(field.change.number)),
         Cell::Name(name),
     ])
-}
-
-/// Of a type its digits; of the other fields a number.
-fn value<'t>(value: &Value, text: &'t str) -> Cell<'t> {
-    match *value {
-        Value::Hex(..) => Cell::Name(text.as_bytes()),
-        Value::Number(number) => Cell::Number(number),
-        Value::Signed(number) => Cell::Named(number, None),
-    }
 }
 
 /// What the new value means, in one word as every cell of a listing.

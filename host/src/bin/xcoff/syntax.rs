@@ -224,12 +224,14 @@ pub static COMMANDS: [Command; 13] = [
     },
     Command {
         name: "salvage",
-        usage: "FILE -o COPY [--report REPORT] [--json]",
+        usage: "FILE -o COPY [--report REPORT] [--force] [--no-wait] [--json]",
         operands: &["FILE"],
         optional: 0,
         options: &[
             required("-o", &["COPY"]),
             flag("--report", &["REPORT"]),
+            FORCE,
+            NO_WAIT,
             flag("--json", &[]),
         ],
         summary: "copies a file and mends its damaged symbols",
@@ -521,13 +523,15 @@ it was refused for, the field and its offset in the file, what stood there and w
 stands there now. A file whose symbol table shares bytes with its headers or a debug
 section is refused (29 SHARED): a change there would damage these.
 
-The copy is opened and walked again before it is written; old files are replaced
-whole. FILE itself is never changed.
+The copy is opened and walked again before it is written. FILE itself is never
+changed, and another XCOFF file is replaced with --force only.
 
   xcoff salvage card3.xcoff -o card3.mended
 
 -o COPY          the copy to write
 --report REPORT  a file for the changes, 8 bytes each: the symbol's index and the
                  number of the refusal (9 AUX, 10 NAME, 11 SECTION, 30 VISIBILITY)
+--force          replaces an XCOFF file or a sheet too
+--no-wait        ends, with status 3, where another xcoff writes in the folder
 --json           one object a line: the copy, then each change; 'refused' is the number
 ";
