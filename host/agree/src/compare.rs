@@ -32,8 +32,11 @@ pub type Agreement = Result<Agreed, Difference>;
 /// refusals point.
 pub fn compare(file: &[u8], op: &Op) -> Agreement {
     let agreed = run_both(file, op)?;
-    for refusal in &agreed.refusals {
-        places::read(file, refusal)?;
+    // What the library does not have yet it cannot show either.
+    if !later::is_later(op) {
+        for refusal in &agreed.refusals {
+            places::read(file, refusal)?;
+        }
     }
     Ok(agreed)
 }
