@@ -34,7 +34,7 @@ static inline const xcoff_words *xcoff_words_of(uint64_t number, uint64_t item)
         {3, 0, 0, "LIMIT", "the data image is longer than 16,777,216 bytes"},
         {4, 0, 0, "KIND", "the flags of section % are not allowed"},
         {5, 1, 0, "BOUNDS", "the symbol table or string table passes the file's end"},
-        {5, 0, 0, "BOUNDS", "the raw data of section % passes the file's end"},
+        {5, 0, 0, "BOUNDS", "the raw data or line table of section % passes the file's end, or the table's overflow header is not there exactly once"},
         {6, 0, 0, "ADDRESS", "the addresses of section % differ or pass the address space, or it is a bss below the end of data"},
         {7, 0, 0, "STRINGS", "the string table has length 1, 2 or 3"},
         {8, 0, 0, "INDEX", "there is no number % of what was asked for"},
@@ -68,6 +68,8 @@ static inline const xcoff_words *xcoff_words_of(uint64_t number, uint64_t item)
         {23, 0, 0, "FORM", "S-records are for XCOFF32 modules only"},
         {24, 0, 0, "CLASH", "the text and data images share an address"},
         {30, 0, 0, "VISIBILITY", "the type of symbol % claims a visibility of 5 to 7, which means nothing"},
+        {31, 0, 0, "NOLINE", "no entry of the line table has an address at or below the one asked for"},
+        {32, 0, 0, "GROUP", "the line table has a line before any function"},
         {0, 0, 0, "UNKNOWN", "no such number"},
     };
     size_t n = 0;
