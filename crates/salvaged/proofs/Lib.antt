@@ -5,3 +5,4 @@ pub mod Walk
 pub mod Exact
 pub mod Bits
 pub mod Theorem
+pub mod Example
