@@ -505,13 +505,6 @@ typedef struct xcoff_line_answer {
    own addresses. GROUP, whatever address is asked for, comes before NOLINE, the last refusal. */
 xcoff_line_answer xcoff_find_line(const uint8_t *file, size_t length, uint64_t section, uint64_t address);
 
-typedef struct xcoff_count_answer {
-    uint64_t number;
-    uint64_t item;
-    uint64_t offset;
-    uint64_t count;
-} xcoff_count_answer;
-
 /* An entry of a line table. */
 typedef struct xcoff_line_row {
     uint64_t function;  /* 1: a function begins, value is its symbol's index; 0: value is an address */
