@@ -16,7 +16,6 @@ pub fn is_later(op: &Op) -> bool {
             | Op::ObjectCalls { .. }
             | Op::Table(_)
             | Op::WriteModule { .. }
-            | Op::Salvage { .. }
     )
 }
 
