@@ -28,8 +28,9 @@
  *    2 MAGIC     not 01DF (32 bits) or 01F7 (64 bits)                      0
  *    3 LIMIT     above a limit: 16,777,216 bytes of file; 32 sections;     0 file, 1 sections, 2 loader symbols or
  *                70,000 loader symbols or addresses in a sheet (4,096 in   addresses, 3 relocation entries,
- *                one that begins 0002); 100,000 relocation entries;        4 data image
- *                16,777,216 bytes of data image
+ *                one that begins 0002); 100,000 relocation entries;        4 data image, 5 salvage report
+ *                16,777,216 bytes of data image; a salvage report that is
+ *                longer than the memory lent for it
  *    4 KIND      section flags not allowed                                 section
  *    5 BOUNDS    raw data, symbol or string table past the file's end;     section, or 0
  *                a section's line table past it, or its overflow header
@@ -59,8 +60,8 @@
  *                same
  *   19 PLAN      an image passes the end of the address space, or an       0 text, 1 data, or the import's index
  *                address of XCOFF32 has more than 32 bits
- *   20 ROOM      lent memory not exactly as long as needed                 0 text, sheet, rows or records; 1 data;
- *                                                                          2 list
+ *   20 ROOM      lent memory not exactly as long as needed                 0 text, sheet, rows, records or a file's
+ *                                                                          copy; 1 data; 2 list
  *   21 SHEET     not a plan sheet, or one of the wrong length              0
  *   22 RECORD    a line of the record text is not as it must be, is        the line, from 1
  *                missing, or is one too many
@@ -70,6 +71,7 @@
  *                is new
  *   27 ABSENT    the bench has no such row                                 0
  *   28 LONG      the name of a row is empty or has more than 32 bytes      0
+ *   29 SHARED    parts of the file that must not do so share a byte        0
  *   30 VISIBILITY  a symbol's type claims a visibility of 5 to 7           index
  *   31 NOLINE    no line at or below the address asked for                 0
  *   32 GROUP     a line table has a line before any function               0
@@ -247,6 +249,32 @@ xcoff_name_answer xcoff_symbol_name(const uint8_t *file, size_t length, uint64_t
 
 /* Reads every symbol in turn, up to the table's end or the first that is refused. */
 xcoff_walk_answer xcoff_walk(const uint8_t *file, size_t length);
+
+/* A count beside a verdict. */
+typedef struct xcoff_count_answer {
+    uint64_t number;
+    uint64_t item;
+    uint64_t offset;
+    uint64_t count;
+} xcoff_count_answer;
+
+/*
+ * A damaged symbol table salvaged: a copy of the file in which the walk reaches the table's end. Each symbol that the walk
+ * visits is set right for every check that refuses it, in their order: 9 AUX, the auxiliary entries cut to what the table
+ * has left; 11 SECTION, section 0; 10 NAME, the empty name, by offset 0; 30 VISIBILITY, none (bits 7000 hex of the type
+ * cleared). Every other bit is the file's. The walk goes on by the auxiliary entries as cut.
+ *
+ * The report has 8 bytes for each change, in the walk's order and for one symbol in the order above: the symbol's index in
+ * 4 bytes and the number of the refusal in 4, the most significant byte first. `count` is how many changes there are;
+ * xcoff_salvage_count answers it beforehand.
+ *
+ * `copy` must have exactly the file's length, `report` at least 8 * count bytes; what is behind those stays as it was. The
+ * order of refusals: those of xcoff_open; SHARED where the symbol table shares a byte with the header area or the raw data
+ * of a debug section; ROOM 0 for the copy; LIMIT 5 for the report. A refusal leaves both as they were.
+ */
+xcoff_count_answer xcoff_salvage_count(const uint8_t *file, size_t length);
+xcoff_count_answer xcoff_salvage(const uint8_t *file, size_t length, uint8_t *copy, size_t copy_length, uint8_t *report,
+                                 size_t report_length);
 
 /* The csect entry of symbol i. */
 xcoff_csect_answer xcoff_csect(const uint8_t *file, size_t length, uint64_t i);
@@ -480,13 +508,6 @@ typedef struct xcoff_line_answer {
 /* The entry with the greatest address not above `address`, the first such in the table; it is not compared with the section's
    own addresses. GROUP, whatever address is asked for, comes before NOLINE, the last refusal. */
 xcoff_line_answer xcoff_find_line(const uint8_t *file, size_t length, uint64_t section, uint64_t address);
-
-typedef struct xcoff_count_answer {
-    uint64_t number;
-    uint64_t item;
-    uint64_t offset;
-    uint64_t count;
-} xcoff_count_answer;
 
 /* An entry of a line table. */
 typedef struct xcoff_line_row {

@@ -86,6 +86,7 @@ impl Commands {
             let status = self.run(&format!("relocations m --follows {address}"));
             assert!(status == module || module == 0 && status == 2, "{address}: status {status}");
         }
+        self.salvage(input);
         self.as_sheet();
         self.as_imports();
         self.as_image(input);
@@ -128,6 +129,23 @@ impl Commands {
         // A table that is refused has no line.
         assert!(self.run("lines m --section 1") <= named);
         assert!(self.run("line m 10000100 --sheet fixed.sheet") <= 1);
+    }
+
+    /// A file that opens is salvaged, or its parts share bytes; of the copy every symbol is listed, and nothing is left to mend.
+    fn salvage(&self, input: &[u8]) {
+        let status = self.run("salvage m -o copy --report report --force");
+        assert!(status <= 1);
+        assert_eq!(self.run("salvage m -o copy --force --json"), status);
+        let opens = xcoff::open(input).is_ok();
+        assert!(status == 1 || opens);
+        if status == 1 {
+            assert!(!opens || !xcoff::shared_with_symbols(input).is_empty());
+            return;
+        }
+        assert_eq!(self.run("symbols copy"), 0);
+        assert_eq!(self.run("salvage copy -o again --report report --force"), 0);
+        assert_eq!(fs::read("copy").unwrap(), fs::read("again").unwrap());
+        assert!(fs::read("report").unwrap().is_empty());
     }
 
     /// The input as a file of addresses, which is taken apart before anything is judged.

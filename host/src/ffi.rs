@@ -321,6 +321,15 @@ extern "C" {
     ) -> Head;
     fn xcoff_table_count(table: *const Table, bench: u64) -> Count;
     fn xcoff_table_rows(table: *const Table, bench: u64, rows: *mut u64, numbers: usize) -> Head;
+    fn xcoff_salvage_count(file: *const u8, length: usize) -> Count;
+    fn xcoff_salvage(
+        file: *const u8,
+        length: usize,
+        copy: *mut u8,
+        copy_length: usize,
+        report: *mut u8,
+        report_length: usize,
+    ) -> Count;
 }
 
 pub fn version() -> u64 {
@@ -593,4 +602,21 @@ pub fn table_count(table: &Table, bench: u64) -> Count {
 
 pub fn table_rows(table: &Table, bench: u64, rows: &mut [u64]) -> Head {
     unsafe { xcoff_table_rows(table, bench, rows.as_mut_ptr(), rows.len()) }
+}
+
+pub fn salvage_count(file: &[u8]) -> Count {
+    unsafe { xcoff_salvage_count(file.as_ptr(), file.len()) }
+}
+
+pub fn salvage(file: &[u8], copy: &mut [u8], report: &mut [u8]) -> Count {
+    unsafe {
+        xcoff_salvage(
+            file.as_ptr(),
+            file.len(),
+            copy.as_mut_ptr(),
+            copy.len(),
+            report.as_mut_ptr(),
+            report.len(),
+        )
+    }
 }

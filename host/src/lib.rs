@@ -18,6 +18,8 @@ mod lines;
 mod place;
 mod records;
 mod refusal;
+mod salvage;
+mod shared;
 mod source;
 mod tables;
 
@@ -33,6 +35,10 @@ pub use lines::{find_line, line_count, line_table, FoundLine, LineEntry, LineTab
 pub use place::{places, FieldValue, Place, Value, What};
 pub use records::{read_records, records_length, write_records, write_records_into};
 pub use refusal::Refusal;
+pub use salvage::{
+    changed_fields, changes, salvage, salvage_count, salvage_into, Change, ChangedField, Salvaged,
+};
+pub use shared::{shared_in_module, shared_with_symbols, FilePart, FileRange};
 pub use source::{Source, Sources};
 pub use tables::{
     import_table, loader_symbol_table, relocation_table, symbol_table, Image, ImportId,

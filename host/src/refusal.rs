@@ -43,6 +43,7 @@ impl Refusal {
             26 => "FULL",
             27 => "ABSENT",
             28 => "LONG",
+            29 => "SHARED",
             30 => "VISIBILITY",
             31 => "NOLINE",
             32 => "GROUP",
@@ -82,6 +83,7 @@ impl Refusal {
             26 => "all 512 rows of the address table are taken, and this one is new".into(),
             27 => "the bench has no such row in the address table".into(),
             28 => "a name in the address table has 1 to 32 bytes".into(),
+            29 => "parts of the file that must be apart share bytes".into(),
             30 => format!("the type of symbol {i} claims a visibility of 5 to 7, which means nothing"),
             31 => "no entry of the line table has an address at or below the one asked for".into(),
             32 => "the line table has a line before any function".into(),
@@ -119,7 +121,8 @@ fn limit(item: u64) -> &'static str {
         1 => "there are more than 32 sections",
         2 => "there are more than 70,000 loader symbols, or addresses in a sheet, in one that starts with 0002 more than 4,096",
         3 => "there are more than 100,000 relocation entries",
-        _ => "the data image is longer than 16,777,216 bytes",
+        4 => "the data image is longer than 16,777,216 bytes",
+        _ => "the report has fewer than 8 bytes for each change",
     }
 }
 
@@ -154,7 +157,7 @@ fn plan(item: u64) -> String {
 
 fn room(item: u64) -> &'static str {
     match item {
-        0 => "text image, sheet or record text",
+        0 => "text image, sheet, record text or whole file",
         1 => "data image",
         _ => "list of addresses",
     }

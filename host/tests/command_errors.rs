@@ -533,7 +533,7 @@ fn a_file_over_the_limit_is_judged_by_the_library() {
         &["check", M, "sheet", "/dev/zero", "data"],
         1,
         "xcoff: /dev/zero (more than 16777216 bytes, where the text image of exe-imports-32 has 160): \
-         refused 20 0 0: ROOM, the text image, sheet or record text is not exactly as long as needed\n",
+         refused 20 0 0: ROOM, the text image, sheet, record text or whole file is not exactly as long as needed\n",
     );
 }
 
@@ -614,7 +614,7 @@ fn images_of_the_wrong_length_are_refused() {
     let data = "xcoff: longer (161 bytes, where the data image of exe-imports-32 has 160): refused 20 1 0: ROOM, \
                 the data image is not exactly as long as needed\n";
     let text = "xcoff: none (0 bytes, where the text image of exe-imports-32 has 160): refused 20 0 0: ROOM, \
-                the text image, sheet or record text is not exactly as long as needed\n";
+                the text image, sheet, record text or whole file is not exactly as long as needed\n";
     for unchecked in [&[][..], &["--unchecked"]] {
         let moved = ["move", M, "sheet", "sheet"];
         folder.fails(

@@ -479,7 +479,7 @@ fn images_of_the_wrong_length_are_refused() {
             &format!("{records} none longer"),
             1,
             "xcoff: none (0 bytes, where the text image of exe-imports-32 has 160): \
-             refused 20 0 0: ROOM, the text image, sheet or record text is not exactly as long as needed\n",
+             refused 20 0 0: ROOM, the text image, sheet, record text or whole file is not exactly as long as needed\n",
         );
     }
     assert!(!folder.path("t").exists());

@@ -446,6 +446,41 @@ fn table(words: &mut Words) -> String {
     parts.join(" ; ")
 }
 
+/// A lent buffer of so many bytes, of which a case says no more.
+fn lent(length: u64) -> Vec<u8> {
+    (0..length).map(|i| (i * 37 + 11) as u8).collect()
+}
+
+/// Where bytes differ from others of the same length: each run by its offset, between commas.
+fn changes(before: &[u8], after: &[u8]) -> String {
+    let differs: Vec<usize> = (0..after.len())
+        .filter(|&at| before[at] != after[at])
+        .collect();
+    let run = |run: &[usize]| {
+        let digits: String = run.iter().map(|&at| format!("{:02x}", after[at])).collect();
+        format!("{:x}:{digits}", run[0])
+    };
+    let runs: Vec<String> = differs.chunk_by(|a, b| a + 1 == *b).map(run).collect();
+    or_dash(runs.join(","))
+}
+
+fn salvage(file: &[u8], words: &mut Words) -> String {
+    let before = (lent(number(next(words))), lent(number(next(words))));
+    let (mut copy, mut report) = before.clone();
+    match xcoff::salvage_into(file, &mut copy, &mut report) {
+        Err(refusal) => {
+            assert!((copy, report) == before, "a refusal writes");
+            format!("{} / .", given(Err(refusal)))
+        }
+        Ok(count) => {
+            let (written, rest) = report.split_at(8 * count as usize);
+            assert_eq!(rest, &before.1[written.len()..], "the report's rest");
+            let written: String = written.iter().map(|b| format!("{b:02x}")).collect();
+            format!("{count:x} / {} {}", changes(file, &copy), or_dash(written))
+        }
+    }
+}
+
 // ---- the second implementation
 
 fn their_plan(words: &mut Words) -> reference::Plan {
@@ -528,6 +563,10 @@ fn operation(asked: &str) -> Op {
             list: numbers(next(words)),
             sheet: bytes(next(words)),
         },
+        "salvage" => Op::Salvage {
+            copy: lent(number(next(words))),
+            report: lent(number(next(words))),
+        },
         "srecord_write" => Op::WriteRecords {
             plan: their_plan(words),
             text: bytes(next(words)),
@@ -566,6 +605,7 @@ fn answer(file: &[u8], asked: &str) -> String {
         "sheet_write" => sheet_write(&mut words),
         "srecord_write" => srecord_write(file, &mut words),
         "srecord_read" => srecord_read(file, &mut words),
+        "salvage" => salvage(file, &mut words),
         _ => panic!("no such operation: {op}"),
     }
 }
@@ -691,7 +731,14 @@ fn every_recorded_case_of_request_7_is_answered_as_recorded() {
 #[test]
 fn every_recorded_case_of_request_6_is_answered_as_recorded() {
     let counts = check("cases-06.txt", |answer| answer);
-    assert_eq!(counts.values().sum::<u64>(), 563);
-    assert_eq!(counts.len(), 16, "{counts:?}");
+    assert_eq!(counts.values().sum::<u64>(), 552);
+    assert_eq!(counts.len(), 15, "{counts:?}");
     assert_eq!(counts["table"], 242);
+}
+
+#[test]
+fn every_recorded_case_of_request_12_is_answered_as_recorded() {
+    let counts = check("cases-12.txt", |answer| answer);
+    assert_eq!(counts.values().sum::<u64>(), 560);
+    assert_eq!((counts["salvage"], counts["walk"]), (260, 113));
 }

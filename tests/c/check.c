@@ -451,6 +451,41 @@ static void module_rows(void)
     }
 }
 
+/* The name of symbol 48 and the section and auxiliaries of symbol 56 damaged: three changes, and nothing else. */
+static void salvaged(void)
+{
+    static uint8_t damaged[65536], copy[65536], report[32];
+    static const uint8_t changes[24] = {0, 0, 0, 48, 0, 0, 0, 10, 0, 0, 0, 56, 0, 0, 0, 9, 0, 0, 0, 56, 0, 0, 0, 11};
+    xcoff_count_answer c = xcoff_salvage_count(file, length);
+    xcoff_walk_answer w;
+    EXPECT(ACCEPTED(c) && c.count == 0);
+    c = xcoff_salvage(file, length, copy, length, NULL, 0);
+    EXPECT(ACCEPTED(c) && c.count == 0 && memcmp(copy, file, length) == 0);
+    memcpy(damaged, file, length);
+    memset(damaged + 2298, 'z', 4);
+    memset(damaged + 2450, 'z', 2);
+    damaged[2455] = 'z';
+    c = xcoff_salvage_count(damaged, length);
+    EXPECT(ACCEPTED(c) && c.count == 3);
+    memset(copy, 1, sizeof copy);
+    memset(report, 1, sizeof report);
+    c = xcoff_salvage(damaged, length, copy, length - 1, report, 24);
+    EXPECT(REFUSED(c, 20, 0, 0) && c.count == 0);
+    c = xcoff_salvage(damaged, length, copy, length, report, 23);
+    EXPECT(REFUSED(c, 3, 5, 0) && c.count == 0);
+    EXPECT(all_are(copy, sizeof copy, 1) && all_are(report, sizeof report, 1));
+    c = xcoff_salvage(damaged, length, copy, length, report, sizeof report);
+    EXPECT(ACCEPTED(c) && c.count == 3);
+    EXPECT(memcmp(report, changes, 24) == 0 && all_are(report + 24, 8, 1) && all_are(copy + length, 8, 1));
+    w = xcoff_walk(copy, length);
+    EXPECT(ACCEPTED(w) && w.end == 60 && w.cause.number == 0);
+    EXPECT(all_are(copy + 2298, 4, 0) && all_are(copy + 2450, 2, 0) && copy[2455] == 3);
+    memcpy(copy + 2298, damaged + 2298, 4);
+    memcpy(copy + 2450, damaged + 2450, 2);
+    copy[2455] = 'z';
+    EXPECT(memcmp(copy, damaged, length) == 0);
+}
+
 static void nothing(void)
 {
     xcoff_open_answer o = xcoff_open(NULL, 0);
@@ -464,6 +499,7 @@ static void nothing(void)
     EXPECT(xcoff_records_length(NULL, 0, 0, 0, NULL, 0).number == 1);
     EXPECT(xcoff_write_records(NULL, 0, 0, 0, NULL, 0, NULL, 0, NULL, 0, NULL, 0).number == 1);
     EXPECT(xcoff_read_records(NULL, 0, 0, 0, NULL, 0, NULL, 0, NULL, 0, NULL, 0).number == 1);
+    EXPECT(xcoff_salvage_count(NULL, 0).number == 1 && xcoff_salvage(NULL, 0, NULL, 0, NULL, 0).number == 1);
 }
 
 /* Plans as structs, tables by rows, names for numbers: the same as the exports. */
@@ -555,6 +591,7 @@ int main(int argc, char **argv)
     symbol_rows();
     module_rows();
     inlines();
+    salvaged();
     nothing();
     return failed;
 }

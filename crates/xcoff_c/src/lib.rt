@@ -26,6 +26,7 @@ ghost use Rattle.relocation_table.specs.Rows.{relocations};
 ghost use Rattle.import_table.specs.Imports.{imports};
 ghost use Rattle.line_lookup.specs.Lookup.{countReport, lineReport};
 ghost use Rattle.line_table.specs.Table.{lineTableCheck, linesAfter};
+ghost use Rattle.salvage.specs.Answer.{countAnswer, salvageAnswer, copyAfter, reportAfter, reportOfCount};
 ghost use Rattle.offset.specs.Report.{reportHead, reportOfRange};
 use csect_lookup::CsectReport;
 use displacement::Addresses;
@@ -42,6 +43,7 @@ use lookup::LoaderSymbolReport;
 use offset::RangeReport;
 use refusal::Head;
 use replay::ReplayReport;
+use salvage::CountReport;
 use section_lookup::SectionReport;
 use sheet::SheetReport;
 use srecord::LengthReport;
@@ -387,4 +389,22 @@ pub extern "C" fn xcoff_line_table(file: &[u8], section: u64, rows: &mut [u64]) 
         file,
         line_table::line_table(file, SectionNumber(section), rows),
     )
+}
+
+// How many changes salvaging the symbol table of a file makes.
+#[no_mangle]
+pub extern "C" fn xcoff_salvage_count(file: &[u8]) -> CountReport
+    ensures { λ r. ⌜ r ≡ reportOfCount (now (file .entry)) (countAnswer (now (file .entry))) ⌝ }
+{
+    salvage::report_count(file, salvage::salvage_count(file))
+}
+
+// Writes a copy in which the walk reaches the table's end, and 8 bytes of report for each change.
+#[no_mangle]
+pub extern "C" fn xcoff_salvage(file: &[u8], copy: &mut [u8], report: &mut [u8]) -> CountReport
+    ensures answer { λ r. ⌜ r ≡ reportOfCount (now (file .entry)) (salvageAnswer (now (file .entry)) (length (now (copy .entry))) (length (now (report .entry)))) ⌝ }
+    ensures copied { λ _. ⌜ now (copy .exit) ≡ copyAfter (now (file .entry)) (now (copy .entry)) (length (now (report .entry))) ⌝ }
+    ensures reported { λ _. ⌜ now (report .exit) ≡ reportAfter (now (file .entry)) (length (now (copy .entry))) (now (report .entry)) ⌝ }
+{
+    salvage::report_count(file, salvage::salvage(file, copy, report))
 }

@@ -1,6 +1,6 @@
 //! One operation, run by both implementations.
 
-use crate::{address_table, images, later, lines, places, read, records};
+use crate::{address_table, images, later, lines, places, read, records, salvages};
 use reference::generate::Op;
 use reference::Refusal;
 use std::fmt::Debug;
@@ -32,11 +32,11 @@ pub type Agreement = Result<Agreed, Difference>;
 /// refusals point, if the library has them.
 pub fn compare(file: &[u8], op: &Op) -> Agreement {
     let agreed = run_both(file, op)?;
-    if later::is_later(op) {
-        return Ok(agreed);
-    }
-    for refusal in &agreed.refusals {
-        places::read(file, refusal)?;
+    // What the library does not have yet it cannot show either.
+    if !later::is_later(op) {
+        for refusal in &agreed.refusals {
+            places::read(file, refusal)?;
+        }
     }
     Ok(agreed)
 }
@@ -66,6 +66,7 @@ fn run_both(file: &[u8], op: &Op) -> Agreement {
         } => records::read(file, plan, records, (text, data)),
         Op::FindLine { section, address } => lines::find(file, *section, *address),
         Op::Table(calls) => address_table::calls(file, calls),
+        Op::Salvage { copy, report } => salvages::salvage(file, copy, report),
         _ if later::is_later(op) => later::alone(file, op),
         _ => read::read(file, op),
     }

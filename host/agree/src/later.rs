@@ -15,7 +15,6 @@ pub fn is_later(op: &Op) -> bool {
             | Op::ObjectMove { .. }
             | Op::ObjectCalls { .. }
             | Op::WriteModule { .. }
-            | Op::Salvage { .. }
     )
 }
 

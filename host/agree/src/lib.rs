@@ -14,6 +14,7 @@ mod places;
 mod read;
 mod records;
 mod run;
+mod salvages;
 mod tables;
 
 pub use compare::{compare, Agreed, Difference};

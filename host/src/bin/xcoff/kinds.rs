@@ -15,6 +15,9 @@ pub enum Written {
     Image,
     Records,
     Picture,
+    /// A copy of an XCOFF file.
+    Copy,
+    Report,
 }
 
 impl Written {
@@ -24,6 +27,8 @@ impl Written {
             Written::Image => "an image",
             Written::Records => "S-records",
             Written::Picture => "a picture",
+            Written::Copy => "a copy of another",
+            Written::Report => "a report",
         }
     }
 }

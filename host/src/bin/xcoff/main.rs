@@ -28,6 +28,7 @@ mod pages;
 mod plans;
 mod problem;
 mod records;
+mod salvage;
 mod shown;
 mod syntax;
 mod table;

@@ -2,7 +2,7 @@
 
 use crate::args::Arguments;
 use crate::problem::Problem;
-use crate::{check, images, line, lined, lists, plans, records, table};
+use crate::{check, images, line, lined, lists, plans, records, salvage, table};
 
 pub struct Command {
     pub name: &'static str,
@@ -73,7 +73,7 @@ const fn lister(
     }
 }
 
-pub static COMMANDS: [Command; 15] = [
+pub static COMMANDS: [Command; 16] = [
     lister(
         "headers",
         "the file header and the sections",
@@ -259,6 +259,22 @@ pub static COMMANDS: [Command; 15] = [
         summary: "reads S-records back into images",
         help: IMAGES,
         run: records::images,
+    },
+    Command {
+        name: "salvage",
+        usage: "FILE -o COPY [--report REPORT] [--force] [--no-wait] [--json]",
+        operands: &["FILE"],
+        optional: 0,
+        options: &[
+            required("-o", &["COPY"]),
+            flag("--report", &["REPORT"]),
+            FORCE,
+            NO_WAIT,
+            flag("--json", &[]),
+        ],
+        summary: "copies a file and mends its damaged symbols",
+        help: SALVAGE,
+        run: salvage::salvage,
     },
 ];
 
@@ -610,4 +626,27 @@ exits with 1.
 --force         replaces an XCOFF file or a sheet too
 --no-wait       ends, with status 3, where another xcoff writes in the folder
 --json          prints one object a line
+";
+
+const SALVAGE: &str = "\
+Writes a copy of a file in which no symbol is refused any more, so that 'xcoff
+symbols' lists all of them. A symbol that is refused for its name gets the empty
+name, for its section section 0, for its auxiliary entries those that are left up
+to the table's end, for its visibility none; one symbol may need several. Every
+other bit of the copy is the file's. Each change is listed: the symbol's index, what
+it was refused for, the field and its offset in the file, what stood there and what
+stands there now. A file whose symbol table shares bytes with its headers or a debug
+section is refused (29 SHARED): a change there would damage these.
+
+The copy is opened and walked again before it is written. FILE itself is never
+changed, and another XCOFF file is replaced with --force only.
+
+  xcoff salvage card3.xcoff -o card3.mended
+
+-o COPY          the copy to write
+--report REPORT  a file for the changes, 8 bytes each: the symbol's index and the
+                 number of the refusal (9 AUX, 10 NAME, 11 SECTION, 30 VISIBILITY)
+--force          replaces an XCOFF file or a sheet too
+--no-wait        ends, with status 3, where another xcoff writes in the folder
+--json           one object a line: the copy, then each change; 'refused' is the number
 ";
