@@ -24,7 +24,7 @@ mod tables;
 
 pub use check::{check_images, move_images_checked, Comparison, NotMoved};
 pub use follows::{followed, PlanAddress};
-pub use header::{header_fields, HeaderFields};
+pub use header::{header_fields, source_name, HeaderFields};
 pub use image::{
     build_images, move_images, read_sheet, read_sheet_into, replay, sheet_length, write_sheet,
     write_sheet_into, Call, Plan, Reached, Replayed,
