@@ -100,38 +100,6 @@ pub fn header_fields(file: &[u8]) -> Option<HeaderFields> {
     })
 }
 
-/// The name of the source file that a symbol of class 103, `.file`, tells of in one of its auxiliary entries: in the entry, or
-/// in the string table.
-pub fn source_name<'a>(file: &'a [u8], index: u64, auxiliaries: u64) -> Option<&'a [u8]> {
-    const ENTRY: u64 = 18;
-    let fields = header_fields(file)?;
-    let start = fields.value("f_symptr")?;
-    let strings = start.checked_add(ENTRY * fields.value("f_nsyms")?)?;
-    let wide = file.starts_with(&[0x01, 0xF7]);
-    let entry = |n: u64| part(file, start.checked_add(ENTRY * (index + n))?, ENTRY);
-    // Byte 14 says what the entry tells: 0 a file's name. In XCOFF64 the last byte says that it is of a file.
-    let of_name = |own: &&[u8]| own[14] == 0 && (!wide || own[17] == 252);
-    let own = (1..=auxiliaries).filter_map(entry).find(of_name)?;
-    match own {
-        [0, 0, 0, 0, ..] => {
-            let offset = number(own, (4, 4)).filter(|&offset| offset >= 4)?;
-            let rest = file.get(usize::try_from(strings.checked_add(offset)?).ok()?..)?;
-            Some(up_to_zero(rest))
-        }
-        _ => Some(up_to_zero(&own[..14])),
-    }
-}
-
-fn part(file: &[u8], offset: u64, length: u64) -> Option<&[u8]> {
-    let start = usize::try_from(offset).ok()?;
-    file.get(start..start.checked_add(length as usize)?)
-}
-
-fn up_to_zero(bytes: &[u8]) -> &[u8] {
-    let end = bytes.iter().position(|&byte| byte == 0);
-    &bytes[..end.unwrap_or(bytes.len())]
-}
-
 fn fields(layout: &[Field], bytes: &[u8], start: usize, format: usize) -> Vec<FieldValue> {
     let read = |(name, form, places): &Field| {
         let (at, length) = places[format];

@@ -24,7 +24,7 @@ mod tables;
 
 pub use check::{check_images, move_images_checked, Comparison, NotMoved};
 pub use follows::{followed, PlanAddress};
-pub use header::{header_fields, source_name, HeaderFields};
+pub use header::{header_fields, HeaderFields};
 pub use image::{
     build_images, move_images, read_sheet, read_sheet_into, replay, sheet_length, write_sheet,
     write_sheet_into, Call, Plan, Reached, Replayed,
@@ -37,7 +37,7 @@ pub use salvage::{
     changed_fields, changes, salvage, salvage_count, salvage_into, Change, ChangedField, Salvaged,
 };
 pub use shared::{shared_in_module, shared_with_symbols, FilePart, FileRange};
-pub use source::{Source, Sources};
+pub use source::{source_name, Source, Sources};
 pub use tables::{
     import_table, loader_symbol_table, relocation_table, symbol_table, Image, ImportId,
     ImportTable, LoaderRow, Relocation, SymbolRow, SymbolTable,

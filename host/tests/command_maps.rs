@@ -345,7 +345,7 @@ fn symbols_have_their_sources_and_sections() {
         let sections = rows(&headers, "section");
         for row in rows(&out, "index") {
             let own = sections.iter().find(|section| section[0] == row[2]);
-            assert_eq!(row[12], own.map_or("-", |section| section[7]), "{file}");
+            assert_eq!(row[12], own.map_or("-", |section| section[11]), "{file}");
             assert!(row[13] == "-" || row[5] == "FILE", "{file}: {}", name(&row));
         }
     }

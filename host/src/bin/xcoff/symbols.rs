@@ -31,6 +31,7 @@ fn symbols_of(args: &Arguments, path: &Path) -> Result<(), Problem> {
     let chosen = Chosen::read(args)?;
     let view = View {
         file: &file,
+        opened: &opened,
         sections: section_names(&file, &opened),
     };
     print(|out| {
@@ -139,6 +140,7 @@ fn matches(pattern: &[u8], name: &[u8]) -> bool {
 
 struct View<'a> {
     file: &'a [u8],
+    opened: &'a Opened,
     sections: Vec<&'a [u8]>,
 }
 
@@ -168,7 +170,7 @@ impl<'a> View<'a> {
     /// The source file that a symbol tells of.
     fn source(&self, row: &SymbolRow) -> Option<&'a [u8]> {
         let s = &row.symbol;
-        (s.sclass == FILE).then(|| source_name(self.file, row.index, s.numaux))?
+        (s.sclass == FILE).then(|| source_name(self.file, self.opened, row))?
     }
 
     /// The name of the section that a symbol is in.
