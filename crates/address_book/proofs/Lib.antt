@@ -1,0 +1,4 @@
+-- The laws of the book, and the theorems on lists of calls.
+
+pub mod Order
+pub mod Laws

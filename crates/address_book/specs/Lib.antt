@@ -1,0 +1,2 @@
+-- What the contracts of `address_book` cite.
+pub mod Book
