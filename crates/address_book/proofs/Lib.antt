@@ -2,3 +2,6 @@
 
 pub mod Order
 pub mod Laws
+pub mod Checks
+pub mod Apart
+pub mod Full
