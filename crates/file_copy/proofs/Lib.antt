@@ -1,0 +1,3 @@
+-- The laws of a copy.
+pub mod Copy
+pub mod Put

@@ -1,0 +1,3 @@
+-- What the frame laws speak of.
+pub mod Same
+pub mod Change

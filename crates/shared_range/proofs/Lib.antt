@@ -1,0 +1,2 @@
+-- The laws of ranges that share a byte.
+pub mod Shared

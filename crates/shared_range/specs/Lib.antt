@@ -1,0 +1,2 @@
+-- What the contracts of `shared_range` cite.
+pub mod Shared
