@@ -19,7 +19,7 @@ use Rattle.address_book.specs.Book.{Key, key, Book, Entry, none, at, find}
 use Rattle.address_book.specs.Call.{Call, add, remove, look, imported, isNone, addressOr, addressAt, keyCheck, callCheck, checkOf, valueIn, numberIn, numberOf}
 use Rattle.address_row.specs.Words.{keyWords}
 use Rattle.address_row.proofs.Good.{good-key}
-use Rattle.address_table.specs.Table.{takenIn, bookOf, placeOf, placeIn, withAddress, withRow, withoutRow, tableApplied, tableAfter}
+use Rattle.address_table.specs.Table.{takenIn, bookOf, placeOf, placeIn, withAddress, withRow, withoutRow, contentsApplied, contentsAfter}
 use Rattle.address_table.proofs.Memory.{length-book, look-none, look-found}
 
 -- ---- a key that is refused
@@ -30,14 +30,14 @@ find-refused k b x e = rw e refl
 
 -- what a call answers, and what it leaves
 abbrev pub Called : List ℕ → List ℕ → Call → Verdict → Type 0
-Called m o c v = (v ≡ checkOf (bookOf m) c) × (o ≡ tableAfter m c)
+Called m o c v = (v ≡ checkOf (bookOf m) c) × (o ≡ contentsAfter m c)
 
 no-call : (m : List ℕ) (c : Call) (x : Refusal) → checkOf (bookOf m) c ≡ Refused x → Called m m c (Refused x)
-unfolding tableAfter
+unfolding contentsAfter
 no-call m c x e = (sym e, rw e refl)
 
-yes-call : (m o : List ℕ) (c : Call) → checkOf (bookOf m) c ≡ Accepted → o ≡ tableApplied c m → Called m o c Accepted
-unfolding tableAfter
+yes-call : (m o : List ℕ) (c : Call) → checkOf (bookOf m) c ≡ Accepted → o ≡ contentsApplied c m → Called m o c Accepted
+unfolding contentsAfter
 yes-call m o c e h = (sym e, rw e h)
 
 pub add-refused : (k : Key) (a : ℕ) (m : List ℕ) (x : Refusal) → keyCheck k ≡ Refused x → Called m m (add k a) (Refused x)
@@ -72,7 +72,7 @@ module _ (k : Key) (v : keyCheck k ≡ Accepted) (b : Bytes (k .name)) (m : List
   found-none h = rw (v, none-there h) refl
 
   pub add-there : {o : List ℕ} (a : ℕ) → p < n → o ≡ set m (p * 8 + 7) a → Called m o (add k a) Accepted
-  unfolding callCheck tableApplied withAddress
+  unfolding callCheck contentsApplied withAddress
   add-there {o} a h q =
       yes-call m o (add k a) (rw (v, found-at h) refl) (rw (lt-ltb (placeIn m k) (takenIn m) (there h), ← place) q)
 
@@ -81,7 +81,7 @@ module _ (k : Key) (v : keyCheck k ≡ Accepted) (b : Bytes (k .name)) (m : List
   add-full a h q = no-call m (add k a) refusal.Full (rw (v, none-there h, length-book m, eq-eqb (takenIn m) 512 (sym t ∙ q)) refl)
 
   pub add-new : {o : List ℕ} (a : ℕ) → n ≤ p → (n ≡ 512 → ⊥) → o ≡ withRow m n ws a → Called m o (add k a) Accepted
-  unfolding callCheck tableApplied
+  unfolding callCheck contentsApplied
   add-new {o} a h q r =
       let free : takenIn m ≡ 512 → ⊥ = λ x. q (t ∙ x) in
       let past : takenIn m ≤ placeIn m k = rw (← place, ← t) h in
@@ -89,7 +89,7 @@ module _ (k : Key) (v : keyCheck k ≡ Accepted) (b : Bytes (k .name)) (m : List
       (rw (le-ltb (placeIn m k) (takenIn m) past, ← t, ← w) r)
 
   pub remove-there : {o : List ℕ} → p < n → o ≡ withoutRow m p n → Called m o (remove k) Accepted
-  unfolding callCheck tableApplied
+  unfolding callCheck contentsApplied
   remove-there {o} h r = yes-call m o (remove k) (rw (v, found-at h) refl) (rw (← place, ← t) r)
 
   pub remove-none : n ≤ p → Called m m (remove k) (Refused refusal.Absent)

@@ -72,15 +72,15 @@ unfoldable pub withoutRow : List ℕ → ℕ → ℕ → List ℕ
 withoutRow m p n =
     set (sets m (p * 8) (take (n * 8 - 8 - p * 8) (drop (p * 8 + 8) m) ++ replicate 8 0)) 4096 (n - 1)
 
-unfoldable pub tableApplied : Call → List ℕ → List ℕ
-tableApplied (add k a) m =
+unfoldable pub contentsApplied : Call → List ℕ → List ℕ
+contentsApplied (add k a) m =
     cond (ltb (placeIn m k) (takenIn m)) (withAddress m (placeIn m k) a) (withRow m (takenIn m) (keyWords k) a)
-tableApplied (remove k) m = withoutRow m (placeIn m k) (takenIn m)
-tableApplied (look k) m = m
-tableApplied (fill n p given) m = m
-tableApplied (count n) m = m
-tableApplied (list n given) m = m
+contentsApplied (remove k) m = withoutRow m (placeIn m k) (takenIn m)
+contentsApplied (look k) m = m
+contentsApplied (fill n p given) m = m
+contentsApplied (count n) m = m
+contentsApplied (list n given) m = m
 
 -- a refused call changes nothing
-unfoldable pub tableAfter : List ℕ → Call → List ℕ
-tableAfter m c = ifAccepted (checkOf (bookOf m) c) (tableApplied c m) m
+unfoldable pub contentsAfter : List ℕ → Call → List ℕ
+contentsAfter m c = ifAccepted (checkOf (bookOf m) c) (contentsApplied c m) m

@@ -9,7 +9,7 @@ ghost use Rattle.refusal.specs.declared.Verdict.the-variants.{Accepted};
 ghost use Rattle.sheet.specs.Sheet.{sheetHead};
 ghost use Rattle.address_book.specs.Book.{key, sameList};
 ghost use Rattle.address_book.specs.Call.{add, remove, look, imported, keyCheck, checkOf, numberOf, addressAt, reportOfNumber};
-ghost use Rattle.address_table.specs.Table.{takenIn, keyWordsAt, placeOf, bookOf, withRow, withoutRow, tableAfter};
+ghost use Rattle.address_table.specs.Table.{takenIn, keyWordsAt, placeOf, bookOf, withRow, withoutRow, contentsAfter};
 use address_book::NumberAnswer;
 use refusal::Refusal;
 use refusal::Verdict;
@@ -138,7 +138,7 @@ fn find_good(table: &[u64; 4097], bench: u64, file_id: u64, name: &[u8]) -> Numb
 fn add_good(table: &mut [u64; 4097], bench: u64, file_id: u64, name: &[u8], address: u64) -> Verdict
     requires { ⌜ keyCheck (key bench «file_id» (now name)) ≡ Accepted ⌝ }
     ensures answer { λ r. ⌜ r ≡ checkOf (bookOf (now (table .entry))) (add (key bench «file_id» (now (name .entry))) address) ⌝ }
-    ensures table { λ _. ⌜ now (table .exit) ≡ tableAfter (now (table .entry)) (add (key bench «file_id» (now (name .entry))) address) ⌝ }
+    ensures table { λ _. ⌜ now (table .exit) ≡ contentsAfter (now (table .entry)) (add (key bench «file_id» (now (name .entry))) address) ⌝ }
 {
     let words = address_row::key_words(bench, file_id, name);
     let n = taken(table);
@@ -157,7 +157,7 @@ fn add_good(table: &mut [u64; 4097], bench: u64, file_id: u64, name: &[u8], addr
 fn remove_good(table: &mut [u64; 4097], bench: u64, file_id: u64, name: &[u8]) -> Verdict
     requires { ⌜ keyCheck (key bench «file_id» (now name)) ≡ Accepted ⌝ }
     ensures answer { λ r. ⌜ r ≡ checkOf (bookOf (now (table .entry))) (remove (key bench «file_id» (now (name .entry)))) ⌝ }
-    ensures table { λ _. ⌜ now (table .exit) ≡ tableAfter (now (table .entry)) (remove (key bench «file_id» (now (name .entry)))) ⌝ }
+    ensures table { λ _. ⌜ now (table .exit) ≡ contentsAfter (now (table .entry)) (remove (key bench «file_id» (now (name .entry)))) ⌝ }
 {
     let words = address_row::key_words(bench, file_id, name);
     let n = taken(table);
@@ -193,7 +193,7 @@ pub fn table_add(
 ) -> Verdict
     ensures cause { λ r. ⌜ r ≡ checkOf (bookOf (now (table .entry))) (add (key bench «file_id» (now (name .entry))) address) ⌝ }
     ensures report { λ r. ⌜ sheetHead r ≡ sheetHead (checkOf (bookOf (now (table .entry))) (add (key bench «file_id» (now (name .entry))) address)) ⌝ }
-    ensures table { λ _. ⌜ now (table .exit) ≡ tableAfter (now (table .entry)) (add (key bench «file_id» (now (name .entry))) address) ⌝ }
+    ensures table { λ _. ⌜ now (table .exit) ≡ contentsAfter (now (table .entry)) (add (key bench «file_id» (now (name .entry))) address) ⌝ }
 {
     let v = address_book::check_key(bench, file_id, name);
     match v {
@@ -206,7 +206,7 @@ pub fn table_add(
 pub fn table_remove(table: &mut [u64; 4097], bench: u64, file_id: u64, name: &[u8]) -> Verdict
     ensures cause { λ r. ⌜ r ≡ checkOf (bookOf (now (table .entry))) (remove (key bench «file_id» (now (name .entry)))) ⌝ }
     ensures report { λ r. ⌜ sheetHead r ≡ sheetHead (checkOf (bookOf (now (table .entry))) (remove (key bench «file_id» (now (name .entry))))) ⌝ }
-    ensures table { λ _. ⌜ now (table .exit) ≡ tableAfter (now (table .entry)) (remove (key bench «file_id» (now (name .entry)))) ⌝ }
+    ensures table { λ _. ⌜ now (table .exit) ≡ contentsAfter (now (table .entry)) (remove (key bench «file_id» (now (name .entry)))) ⌝ }
 {
     let v = address_book::check_key(bench, file_id, name);
     match v {
