@@ -1,0 +1,2 @@
+-- What the contracts of `address_table` cite.
+pub mod Table
