@@ -8,6 +8,7 @@ use lib.Dec.{eqb}
 use lib.ListN.{length}
 use borrow.Author.Tests.{eqb-true, eqb-false, eq-eqb, ne-eqb}
 use Rattle.word.proofs.Test.{and-first, and-second}
+use Rattle.refusal.specs.declared.Refusal.{Refusal}
 use Rattle.refusal.specs.declared.Verdict.{Verdict}
 use Rattle.refusal.specs.declared.Verdict.the-variants.{Accepted, Refused}
 use Rattle.refusal.specs.declared.Refusal.the-variants as refusal
@@ -135,3 +136,10 @@ used-again b k l a h e v =
     let there = length-delete k b (present k (length b) b e) in
     let left : length (delete k b) ≡ rowLimit → ⊥ = λ x. omega arith in
     rw (e, v, ne-eqb (length (delete k b)) rowLimit left) (cases (isNone (find (delete k b) l)) (λ t. rw t refl) (λ t. rw t refl))
+
+-- ---- the order of refusals
+
+-- INDEX and LONG come before FULL and ABSENT, whatever the rows are
+pub key-first : (k : Key) (a taken : ℕ) (b : Book) (x : Refusal) → keyCheck k ≡ Refused x → (callCheck taken b (add k a) ≡ Refused x) × (callCheck taken b (remove k) ≡ Refused x) × (callCheck taken b (look k) ≡ Refused x)
+unfolding callCheck
+key-first k a taken b x e = (rw e refl, rw e refl, rw e refl)

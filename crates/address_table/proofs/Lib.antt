@@ -5,3 +5,4 @@ pub mod Rows
 pub mod Steps
 pub mod Memory
 pub mod Calls
+pub mod Runs

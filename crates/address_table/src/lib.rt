@@ -142,9 +142,9 @@ fn add_good(table: &mut [u64; 4097], bench: u64, file_id: u64, name: &[u8], addr
 {
     let words = address_row::key_words(bench, file_id, name);
     let n = taken(table);
-    let p = place_of(table, words, n);
-    if p < n {
-        put_number(table, p * 8 + 7, address);
+    let place = place_of(table, words, n);
+    if place < n {
+        put_number(table, place * 8 + 7, address);
         return Verdict::Accepted;
     }
     if n == ROW_LIMIT {
@@ -198,7 +198,7 @@ pub fn table_add(
     let v = address_book::check_key(bench, file_id, name);
     match v {
         Verdict::Accepted => add_good(table, bench, file_id, name, address),
-        Verdict::Refused(x) => Verdict::Refused(x),
+        Verdict::Refused(cause) => Verdict::Refused(cause),
     }
 }
 
