@@ -39,7 +39,7 @@
  *                a module's bss below the end of its data
  *    7 STRINGS   string table length 1 to 3                                0
  *    8 INDEX     no such section, symbol, loader symbol or import id; no   the number asked for
- *                such text section
+ *                such text section; a bench that is not 1 or 2
  *    9 AUX       a symbol's auxiliary entries pass the table's end         index
  *   10 NAME      bad name offset, into the string table or, for a class    index
  *                with bit 80 hex, into the one debug section
@@ -67,6 +67,10 @@
  *                missing, or is one too many
  *   23 FORM      S-records of an XCOFF64 module                            0
  *   24 CLASH     the text and data images share an address                 0
+ *   26 FULL      all 512 rows of an address table are taken, and the row   0
+ *                is new
+ *   27 ABSENT    the bench has no such row                                 0
+ *   28 LONG      the name of a row is empty or has more than 32 bytes      0
  *   29 SHARED    parts of the file that must not do so share a byte        0
  *   30 VISIBILITY  a symbol's type claims a visibility of 5 to 7           index
  *   31 NOLINE    no line at or below the address asked for                 0
@@ -515,6 +519,51 @@ typedef struct xcoff_line_row {
 /* How many entries a section's line table has, and these entries whole, 3 numbers each, as the tables above are listed. */
 xcoff_count_answer xcoff_line_count(const uint8_t *file, size_t length, uint64_t section);
 xcoff_verdict xcoff_line_table(const uint8_t *file, size_t length, uint64_t section, uint64_t *rows, size_t numbers);
+
+/*
+ * One table of resolved imports for two benches: 512 rows, each with a bench (1 or 2), a file id, a name of 1 to 32 bytes and
+ * an address. The table is memory of exactly XCOFF_TABLE_NUMBERS numbers, all 0 where it is empty; any numbers are a table, and
+ * where a row lies in them is the library's own. It is yours to keep: calls that get it one after another, each as the last one
+ * left it, are calls on one table. A bench's answers depend on its own rows alone, but for FULL.
+ *
+ * The refusals: INDEX for the bench, LONG, then FULL of an addition and ABSENT of the others. A refusal leaves the table as it
+ * was. A name may hold any bytes; one and the same with a zero after it are two names.
+ */
+#define XCOFF_TABLE_NUMBERS 4097
+
+typedef struct xcoff_address_answer {
+    uint64_t number;
+    uint64_t item;
+    uint64_t offset;
+    uint64_t address;
+} xcoff_address_answer;
+
+/* Adds a row; one that is there gets this address. */
+xcoff_verdict xcoff_table_add(uint64_t *table, uint64_t bench, uint64_t file_id, const uint8_t *name, size_t name_length,
+                              uint64_t address);
+/* Removes a row; its place is used again. */
+xcoff_verdict xcoff_table_remove(uint64_t *table, uint64_t bench, uint64_t file_id, const uint8_t *name, size_t name_length);
+/* The address of a row. */
+xcoff_address_answer xcoff_table_find(const uint64_t *table, uint64_t bench, uint64_t file_id, const uint8_t *name,
+                                      size_t name_length);
+
+/* Writes a plan's list for the module: of each import with an ifile that is not 0 the address of the bench's row with that file
+   id and the import's name, or its recorded value where there is none; 0 in every other place. The refusals: INDEX for the
+   bench, the module's, ROOM 2; they leave the list as it was. */
+xcoff_verdict xcoff_table_fill(const uint8_t *file, size_t length, const uint64_t *table, uint64_t bench, uint64_t *list,
+                               size_t places);
+
+/* A row of a bench. */
+typedef struct xcoff_table_row {
+    uint64_t file_id;
+    uint64_t name_length;
+    uint64_t name[4];       /* the name's bytes, big-endian, with zeros behind them */
+    uint64_t address;
+} xcoff_table_row;
+
+/* How many rows a bench has, and these in the order of file id, then name, 7 numbers each: INDEX for the bench, ROOM 0. */
+xcoff_count_answer xcoff_table_count(const uint64_t *table, uint64_t bench);
+xcoff_verdict xcoff_table_rows(const uint64_t *table, uint64_t bench, uint64_t *rows, size_t numbers);
 
 #ifdef __cplusplus
 }

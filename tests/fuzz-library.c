@@ -56,7 +56,7 @@ static void refusal(const void *answer, size_t size)
     uint64_t head[3];
     size_t i;
     memcpy(head, answer, sizeof head);
-    PROMISE(head[0] <= 24 || (head[0] >= 29 && head[0] <= 32));
+    PROMISE(head[0] <= 24 || (head[0] >= 26 && head[0] <= 32));
     PROMISE(head[0] == 0 ? head[1] == 0 && head[2] == 0 : head[2] <= length);
     for (i = sizeof head; head[0] != 0 && i < size; i++)
         PROMISE(((const uint8_t *)answer)[i] == 0);
@@ -93,12 +93,12 @@ static void *lend(area a, size_t n)
     return at_the_end ? a.start + ROOM - n : a.start;
 }
 
-static area file_area, text_area, data_area, text2_area, data2_area, list_area, list2_area, rows_area, sheet_area, script_area, records_area, copy_area, report_area;
+static area file_area, text_area, data_area, text2_area, data2_area, list_area, list2_area, rows_area, sheet_area, script_area, records_area, copy_area, report_area, table_area;
 
 static void map_all(void)
 {
     area *all[] = {&file_area, &text_area, &data_area, &text2_area, &data2_area, &list_area, &list2_area, &rows_area,
-                   &sheet_area, &script_area, &records_area, &copy_area, &report_area};
+                   &sheet_area, &script_area, &records_area, &copy_area, &report_area, &table_area};
     size_t i;
     for (i = 0; i < sizeof all / sizeof all[0]; i++)
         *all[i] = map();
@@ -925,6 +925,156 @@ static void records(xcoff_module_answer m)
     records_of(m, records_plan(m, 1 + (int)(random_number() % 3)));
 }
 
+/* ---- the address table */
+
+#define TABLE_BYTES (8 * (size_t)XCOFF_TABLE_NUMBERS)
+
+/* What a row is found by: names of the module's imports, and parts of the input. */
+typedef struct row_key {
+    uint64_t bench, file_id;
+    const uint8_t *name;
+    size_t length;
+} row_key;
+
+static row_key any_key(xcoff_module_answer m)
+{
+    row_key k = {1 + random_number() % 2, random_number() % 3, file, random_number() % 35};
+    if (k.length > length)
+        k.length = length;
+    k.name = file + random_number() % (length - k.length + 1);
+    if (m.number == 0 && m.symbols > 0 && random_number() % 2 == 0) {
+        uint64_t i = 3 + random_number() % m.symbols;
+        xcoff_name_answer n = xcoff_loader_symbol_name(file, length, i);
+        k.file_id = xcoff_loader_symbol(file, length, i).ifile;
+        k.name = file + n.start;
+        k.length = n.length;
+    }
+    if (random_number() % 16 == 0)
+        k.bench = any_number();
+    return k;
+}
+
+/* The refusal of the key itself. */
+static uint64_t key_number(row_key k)
+{
+    return k.bench != 1 && k.bench != 2 ? 8 : k.length < 1 || k.length > 32 ? 28 : 0;
+}
+
+static int names_row(row_key k, const xcoff_table_row *row)
+{
+    uint8_t name[32];
+    size_t i;
+    for (i = 0; i < 32; i++)
+        name[i] = (uint8_t)(row->name[i / 8] >> (56 - 8 * (i % 8)));
+    return row->file_id == k.file_id && row->name_length == k.length && memcmp(name, k.name, k.length) == 0;
+}
+
+/* A bench's rows into exactly as many places. */
+static size_t rows_of(const uint64_t *table, uint64_t bench, uint64_t *rows)
+{
+    xcoff_count_answer c = xcoff_table_count(table, bench);
+    xcoff_verdict v = xcoff_table_rows(table, bench, rows, 7 * c.count + 1);
+    PROMISE(c.number == 0 && c.count <= 512 && REFUSED(v, 20, 0, 0));
+    v = xcoff_table_rows(table, bench, rows, 7 * c.count);
+    PROMISE(v.number == 0);
+    note(rows, 56 * c.count);
+    return c.count;
+}
+
+/* One call on the table: what it answers, and what it leaves of both benches' rows. */
+static void table_call(xcoff_module_answer m, uint64_t *table)
+{
+    static uint64_t before[XCOFF_TABLE_NUMBERS], own[7 * 512 + 1], other[7 * 512 + 1], rows[7 * 512 + 1];
+    row_key k = any_key(m);
+    uint64_t number = key_number(k), address = any_number();
+    size_t n = number == 8 ? 0 : rows_of(table, k.bench, own), others = number == 8 ? 0 : rows_of(table, 3 - k.bench, other), i, left;
+    xcoff_address_answer a = xcoff_table_find(table, k.bench, k.file_id, k.name, k.length);
+    xcoff_verdict v;
+    int there = 0, adds = random_number() % 3 != 0;
+    for (i = 0; i < n; i++)
+        there |= number == 0 && names_row(k, (const xcoff_table_row *)own + i) &&
+                 ((const xcoff_table_row *)own)[i].address == a.address;
+    ANSWER(a);
+    PROMISE(a.number == (number != 0 ? number : there ? 0 : 27) && a.item == (number == 8 ? k.bench : 0));
+    memcpy(before, table, TABLE_BYTES);
+    v = adds ? xcoff_table_add(table, k.bench, k.file_id, k.name, k.length, address)
+             : xcoff_table_remove(table, k.bench, k.file_id, k.name, k.length);
+    ANSWER(v);
+    PROMISE(v.number == (number != 0 ? number : adds ? (!there && n + others == 512 ? 26 : 0) : there ? 0 : 27));
+    if (v.number != 0)
+        PROMISE(memcmp(before, table, TABLE_BYTES) == 0);
+    if (number == 8)
+        return;
+    left = rows_of(table, 3 - k.bench, rows);
+    PROMISE(left == others && memcmp(rows, other, 56 * left) == 0);
+    left = rows_of(table, k.bench, rows);
+    PROMISE(left == n + (v.number == 0 && adds && !there) - (v.number == 0 && !adds));
+    a = xcoff_table_find(table, k.bench, k.file_id, k.name, k.length);
+    if (v.number == 0)
+        PROMISE(adds ? a.number == 0 && a.address == address : a.number == 27);
+}
+
+/* A fill: each place is the row's address, the recorded value or 0. */
+static void filled(xcoff_module_answer m, const uint64_t *table)
+{
+    size_t n = m.number == 0 ? m.symbols : 5, i;
+    uint64_t *list = lend(list_area, 8 * n);
+    xcoff_verdict v;
+    fill(list, 8 * n);
+    v = xcoff_table_fill(file, length, table, 3, list, n);
+    PROMISE(REFUSED(v, 8, 3, 0));
+    v = xcoff_table_fill(file, length, table, 1, list, n);
+    ANSWER(v);
+    PROMISE(REFUSED_AS(v, m));
+    if (v.number != 0) {
+        untouched(list, 8 * n);
+        return;
+    }
+    note(list, 8 * n);
+    for (i = 0; i < n; i++) {
+        xcoff_loader_symbol_answer y;
+        xcoff_name_answer name;
+        xcoff_address_answer a;
+        if (!(i < SAMPLE || i + 1 == n))
+            continue;
+        y = xcoff_loader_symbol(file, length, i + 3);
+        name = xcoff_loader_symbol_name(file, length, i + 3);
+        a = xcoff_table_find(table, 1, y.ifile, file + name.start, name.length);
+        PROMISE(list[i] == (!(y.smtype & 0x40) || y.ifile == 0 ? 0 : a.number == 0 ? a.address : y.value));
+    }
+    list = lend(list_area, 8 * (n + 1));
+    fill(list, 8 * (n + 1));
+    v = xcoff_table_fill(file, length, table, 1, list, n + 1);
+    PROMISE(REFUSED(v, 20, 2, 0));
+    untouched(list, 8 * (n + 1));
+}
+
+/* A list of calls from an empty table, and the input as a table. */
+static void address_table(xcoff_module_answer m)
+{
+    uint64_t *table = lend(table_area, TABLE_BYTES);
+    size_t i;
+    step = "the address table";
+    memset(table, 0, TABLE_BYTES);
+    PROMISE(xcoff_table_count(table, 1).count == 0 && xcoff_table_count(table, 2).count == 0);
+    for (i = 0; i < 24; i++)
+        table_call(m, table);
+    filled(m, table);
+    note(table, TABLE_BYTES);
+    step = "the input as a table";
+    for (i = 0; i < XCOFF_TABLE_NUMBERS; i++)
+        table[i] = 8 * i + 8 <= length ? number_at(8 * i, 8) % (i % 3 == 0 ? 3 : 40) : random_number() % 40;
+    filled(m, table);
+    PROMISE(xcoff_table_count(table, 1).count + xcoff_table_count(table, 2).count <= 512);
+    for (i = 0; i < 4; i++) {
+        row_key k = any_key(m);
+        xcoff_verdict v = xcoff_table_add(table, k.bench, k.file_id, k.name, k.length, i);
+        ANSWER(v);
+        if (v.number == 0)
+            PROMISE(xcoff_table_find(table, k.bench, k.file_id, k.name, k.length).address == i);
+    }
+}
+
 /* The input as a sheet, and a sheet of its own. */
 static void sheets(void)
 {
@@ -1151,6 +1301,7 @@ static uint64_t run(const uint8_t *input, size_t n)
         symbols(o);
         lines(o);
         m = module(o);
+        address_table(m);
         tables(m);
         images(m);
         records(m);

@@ -10,7 +10,7 @@ use crate::object_rows::our_symbols;
 use crate::report::{name, Report};
 use crate::FORMATS;
 use std::hint::black_box;
-use xcoff::{Format, Plan};
+use xcoff::{AddressTable, Format, Plan};
 
 const ENTRIES: [u64; 4] = [1_000, 4_096, 10_000, 100_000];
 /// As many bytes of data as fit into a file with 100,000 entries of XCOFF64.
@@ -28,6 +28,7 @@ pub fn rows(report: &mut Report) {
     records(report);
     symbols(report);
     lines(report);
+    fills(report);
 }
 
 fn entries(report: &mut Report) {
@@ -271,6 +272,60 @@ fn lines(report: &mut Report) {
         });
         report.grown(&format!("{bits} line table"), &times, &sizes);
     }
+}
+
+const IMPORTS: [usize; 3] = [700, 7_000, 70_000];
+
+/// A full address table against a module's imports: names of 1 byte that are in the first row, of 32 bytes that are in no row.
+fn fills(report: &mut Report) {
+    let sizes = IMPORTS.map(|n| thousands(n as u64));
+    report.growth("growth: 512 rows for a plan, time for one import", &sizes);
+    for format in FORMATS {
+        for (what, length) in [("a row for each", 1), ("no row, names of 32 bytes", 32)] {
+            let mut files = IMPORTS.map(|n| {
+                let mut m = Module::new(format);
+                m.symbols = vec![Symbol::Import; n];
+                m.name = length;
+                (m.bytes(), vec![0; n])
+            });
+            let table = full_table(&files[0].0);
+            let times = each(report, &mut files, &|(file, list)| {
+                table.fill(1, black_box(file), list).unwrap();
+            });
+            let what = format!("{} {what}", name(format));
+            report.grown(&what, &times, &IMPORTS.map(|n| n as f64));
+        }
+    }
+    report.growth("at both limits: one fill", &["time".to_string()]);
+    for format in FORMATS {
+        let mut m = Module::new(format);
+        m.symbols = vec![Symbol::Import; 70_000];
+        m.name = 32;
+        let file = m.bytes();
+        let table = full_table(&file);
+        let times = each(report, &mut [vec![0; 70_000]], &|list| {
+            table.fill(1, black_box(&file), list).unwrap();
+        });
+        let what = format!("{} 70,000 imports against 512 rows", name(format));
+        report.grown(&what, &times, &[1.0]);
+    }
+}
+
+/// 512 rows of one bench: of the module's own file id, with names that begin as its imports' do and end otherwise, and last the
+/// import's own, if it is short.
+fn full_table(file: &[u8]) -> AddressTable {
+    let symbols = xcoff::loader_symbol_table(file).unwrap();
+    let (id, name) = (symbols[0].symbol.ifile, symbols[0].name);
+    let mut table = AddressTable::new();
+    for n in 0..511u16 {
+        let mut other = name.to_vec();
+        other.resize(30, b'a');
+        other.extend(n.to_be_bytes());
+        table.add(1, id, &other, n.into()).unwrap();
+    }
+    let last = if name.len() < 32 { name } else { b"other" };
+    table.add(1, id, last, 511).unwrap();
+    table
 }
 
 /// The same work on several states, by turns.

@@ -158,6 +158,15 @@ pub struct Line {
     pub symbol: u64,
 }
 
+#[repr(C)]
+pub struct Address {
+    pub head: Head,
+    pub address: u64,
+}
+
+/// The memory of an address table.
+type Table = [u64; 4_097];
+
 extern "C" {
     fn xcoff_version() -> u64;
     fn xcoff_open(file: *const u8, length: usize) -> Open;
@@ -280,6 +289,38 @@ extern "C" {
         rows: *mut u64,
         numbers: usize,
     ) -> Head;
+    fn xcoff_table_add(
+        table: *mut Table,
+        bench: u64,
+        file_id: u64,
+        name: *const u8,
+        name_length: usize,
+        address: u64,
+    ) -> Head;
+    fn xcoff_table_remove(
+        table: *mut Table,
+        bench: u64,
+        file_id: u64,
+        name: *const u8,
+        name_length: usize,
+    ) -> Head;
+    fn xcoff_table_find(
+        table: *const Table,
+        bench: u64,
+        file_id: u64,
+        name: *const u8,
+        name_length: usize,
+    ) -> Address;
+    fn xcoff_table_fill(
+        file: *const u8,
+        length: usize,
+        table: *const Table,
+        bench: u64,
+        list: *mut u64,
+        places: usize,
+    ) -> Head;
+    fn xcoff_table_count(table: *const Table, bench: u64) -> Count;
+    fn xcoff_table_rows(table: *const Table, bench: u64, rows: *mut u64, numbers: usize) -> Head;
     fn xcoff_salvage_count(file: *const u8, length: usize) -> Count;
     fn xcoff_salvage(
         file: *const u8,
@@ -528,6 +569,39 @@ pub fn line_table(file: &[u8], section: u64, rows: &mut [u64]) -> Head {
             rows.len(),
         )
     }
+}
+
+pub fn table_add(table: &mut Table, bench: u64, file_id: u64, name: &[u8], address: u64) -> Head {
+    unsafe { xcoff_table_add(table, bench, file_id, name.as_ptr(), name.len(), address) }
+}
+
+pub fn table_remove(table: &mut Table, bench: u64, file_id: u64, name: &[u8]) -> Head {
+    unsafe { xcoff_table_remove(table, bench, file_id, name.as_ptr(), name.len()) }
+}
+
+pub fn table_find(table: &Table, bench: u64, file_id: u64, name: &[u8]) -> Address {
+    unsafe { xcoff_table_find(table, bench, file_id, name.as_ptr(), name.len()) }
+}
+
+pub fn table_fill(file: &[u8], table: &Table, bench: u64, list: &mut [u64]) -> Head {
+    unsafe {
+        xcoff_table_fill(
+            file.as_ptr(),
+            file.len(),
+            table,
+            bench,
+            list.as_mut_ptr(),
+            list.len(),
+        )
+    }
+}
+
+pub fn table_count(table: &Table, bench: u64) -> Count {
+    unsafe { xcoff_table_count(table, bench) }
+}
+
+pub fn table_rows(table: &Table, bench: u64, rows: &mut [u64]) -> Head {
+    unsafe { xcoff_table_rows(table, bench, rows.as_mut_ptr(), rows.len()) }
 }
 
 pub fn salvage_count(file: &[u8]) -> Count {

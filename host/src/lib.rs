@@ -7,6 +7,7 @@
 //! `libxcoff_c.a` is; without it that is `target/staticlib` of the repository.
 #![deny(unsafe_code)]
 
+mod address_table;
 mod check;
 #[allow(unsafe_code)]
 mod ffi;
@@ -22,6 +23,7 @@ mod shared;
 mod source;
 mod tables;
 
+pub use address_table::{AddressTable, TableRow};
 pub use check::{check_images, move_images_checked, Comparison, NotMoved};
 pub use follows::{followed, PlanAddress};
 pub use header::{header_fields, HeaderFields};

@@ -41,6 +41,7 @@ fn help_is_there_for_the_tool_and_each_command() {
         "lines",
         "line",
         "plan",
+        "table",
         "sheet",
         "build",
         "move",

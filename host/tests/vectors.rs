@@ -3,10 +3,11 @@
 //! alike, offsets of refusals included, which the older cases do not have. tests/vectors/README.md has the form.
 
 use reference::generate::Op;
+use reference::{RowKey, TableAnswer, TableCall};
 use std::collections::BTreeMap;
 use std::fmt::Write;
 use std::path::PathBuf;
-use xcoff::{Anchor, Call, CsectType, Format, Plan, Reached, Refusal};
+use xcoff::{AddressTable, Anchor, Call, CsectType, Format, Plan, Reached, Refusal};
 
 // ---- the words of a line
 
@@ -394,6 +395,57 @@ fn srecord_read(file: &[u8], words: &mut Words) -> String {
     format!("{answer} / {text} {data}")
 }
 
+/// The name of a row; a table's call has no file of its own but in a fill.
+fn table_calls(words: &mut Words) -> Vec<(TableCall, Vec<u8>)> {
+    let key = |words: &mut Words| RowKey {
+        bench: number(next(words)),
+        file_id: number(next(words)),
+        name: bytes(next(words)),
+    };
+    let mut calls = Vec::new();
+    while let Some(word) = words.next() {
+        calls.push(match word {
+            "add" => (TableCall::Add(key(words), number(next(words))), Vec::new()),
+            "remove" => (TableCall::Remove(key(words)), Vec::new()),
+            "lookup" => (TableCall::LookUp(key(words)), Vec::new()),
+            _ => {
+                let (bench, file) = (number(next(words)), bytes(next(words)));
+                let list = numbers(next(words));
+                (TableCall::Fill { bench, list }, file)
+            }
+        });
+    }
+    calls
+}
+
+/// Calls on one table that starts empty: the answer of each, with the list after a fill.
+fn table(words: &mut Words) -> String {
+    let mut table = AddressTable::new();
+    let mut parts = Vec::new();
+    for (call, file) in table_calls(words) {
+        parts.push(match call {
+            TableCall::Add(row, address) => {
+                let added = table.add(row.bench, row.file_id, &row.name, address);
+                given(added.map(|()| "done".into()))
+            }
+            TableCall::Remove(row) => {
+                let removed = table.remove(row.bench, row.file_id, &row.name);
+                given(removed.map(|()| "done".into()))
+            }
+            TableCall::LookUp(row) => {
+                let found = table.find(row.bench, row.file_id, &row.name);
+                given(found.map(|address| format!("{address:x}")))
+            }
+            TableCall::Fill { bench, mut list } => {
+                let filled = table.fill(bench, &file, &mut list);
+                let filled = given(filled.map(|()| "filled".into()));
+                format!("{filled} / {}", list_text(&list))
+            }
+        });
+    }
+    parts.join(" ; ")
+}
+
 /// A lent buffer of so many bytes, of which a case says no more.
 fn lent(length: u64) -> Vec<u8> {
     (0..length).map(|i| (i * 37 + 11) as u8).collect()
@@ -445,6 +497,39 @@ fn their_calls(words: &mut Words) -> Vec<reference::Call> {
         });
     }
     calls
+}
+
+/// The answers of the second implementation to calls on a table; each fill has a file of its own.
+fn their_table(words: &mut Words) -> String {
+    let refused = |r: &reference::Refusal| format!("refused {} {} {}", r.number, r.item, r.offset);
+    let mut table = reference::AddressTable::default();
+    let answers =
+        table_calls(words).into_iter().map(|(call, file)| {
+            match reference::run_table_call(&mut table, &file, &call) {
+                TableAnswer::Done => "done".into(),
+                TableAnswer::Address(address) => format!("{address:x}"),
+                TableAnswer::Refused(refusal) => refused(&refusal),
+                TableAnswer::Filled(Ok(()), list) => format!("filled / {}", list_text(&list)),
+                TableAnswer::Filled(Err(refusal), list) => {
+                    format!("{} / {}", refused(&refusal), list_text(&list))
+                }
+            }
+        });
+    answers.collect::<Vec<String>>().join(" ; ")
+}
+
+/// What both implementations say of a question that differs; none where they agree.
+fn disagreement(file: &[u8], asked: &str) -> Option<String> {
+    if let Some(calls) = asked.strip_prefix("table ") {
+        let (ours, theirs) = (
+            table(&mut calls.split(' ')),
+            their_table(&mut calls.split(' ')),
+        );
+        return (ours != theirs)
+            .then(|| format!("{ours:.400}, the second implementation {theirs:.400}"));
+    }
+    let compared = agree::compare(file, &operation(asked));
+    compared.err().map(|difference| format!("{difference:?}"))
 }
 
 /// A question as the comparison of both implementations takes it.
@@ -513,6 +598,7 @@ fn answer(file: &[u8], asked: &str) -> String {
         "loader_symbol" => given(loader_symbol(file, index(&mut words))),
         "import_id" => given(import_id(file, index(&mut words))),
         "find_line" => given(find_line(file, index(&mut words), index(&mut words))),
+        "table" => table(&mut words),
         "list" => listed(file),
         "calls" => calls(file, &mut words),
         "sheet_read" => sheet_read(&mut words),
@@ -552,8 +638,8 @@ fn check(name: &str, as_recorded: fn(String) -> String) -> BTreeMap<String, u64>
         }
         let (asked, expected) = line.split_once(" = ").expect("a question and its answer");
         let got = as_recorded(answer(&file, asked));
-        if let Err(difference) = agree::compare(&file, &operation(asked)) {
-            differences.push(format!("line {}: {asked:.200}: {difference:?}", n + 1));
+        if let Some(difference) = disagreement(&file, asked) {
+            differences.push(format!("line {}: {asked:.200}: {difference}", n + 1));
         }
         if got != expected {
             differences.push(format!(
@@ -640,6 +726,14 @@ fn every_recorded_case_of_request_7_is_answered_as_recorded() {
     assert_eq!(counts.values().sum::<u64>(), 555);
     assert_eq!(counts.len(), 15, "{counts:?}");
     assert_eq!(counts["find_line"], 268);
+}
+
+#[test]
+fn every_recorded_case_of_request_6_is_answered_as_recorded() {
+    let counts = check("cases-06.txt", |answer| answer);
+    assert_eq!(counts.values().sum::<u64>(), 552);
+    assert_eq!(counts.len(), 15, "{counts:?}");
+    assert_eq!(counts["table"], 242);
 }
 
 #[test]

@@ -137,6 +137,53 @@ static void lines(void)
     memcpy(file + 92, header, sizeof header);
 }
 
+/* A row of bench 1 for the module's import errno, of file id 1, and one of bench 2. */
+static void address_table(void)
+{
+    static uint64_t table[XCOFF_TABLE_NUMBERS], before[XCOFF_TABLE_NUMBERS];
+    static const uint8_t name[33] = "errno";
+    uint64_t list[9], rows[8];
+    const xcoff_table_row *row = (const xcoff_table_row *)rows;
+    xcoff_address_answer a;
+    xcoff_count_answer c;
+    xcoff_verdict v = xcoff_table_add(table, 1, 1, name, 5, 0xfff01200);
+    EXPECT(ACCEPTED(v));
+    v = xcoff_table_add(table, 2, 1, name, 5, 7);
+    EXPECT(ACCEPTED(v));
+    memcpy(before, table, sizeof table);
+    v = xcoff_table_add(table, 3, 1, name, 0, 7);
+    EXPECT(REFUSED(v, 8, 3, 0));
+    v = xcoff_table_add(table, 1, 1, name, 33, 7);
+    EXPECT(REFUSED(v, 28, 0, 0));
+    v = xcoff_table_remove(table, 1, 2, name, 5);
+    EXPECT(REFUSED(v, 27, 0, 0) && memcmp(before, table, sizeof table) == 0);
+    a = xcoff_table_find(table, 1, 1, name, 5);
+    EXPECT(ACCEPTED(a) && a.address == 0xfff01200);
+    a = xcoff_table_find(table, 1, 1, name, 6);
+    EXPECT(REFUSED(a, 27, 0, 0) && a.address == 0);
+    c = xcoff_table_count(table, 1);
+    EXPECT(ACCEPTED(c) && c.count == 1);
+    c = xcoff_table_count(table, 0);
+    EXPECT(REFUSED(c, 8, 0, 0) && c.count == 0);
+    rows[7] = 0x5555;
+    v = xcoff_table_rows(table, 1, rows, 8);
+    EXPECT(REFUSED(v, 20, 0, 0));
+    v = xcoff_table_rows(table, 1, rows, 7);
+    EXPECT(ACCEPTED(v) && row->file_id == 1 && row->name_length == 5 && row->address == 0xfff01200 && rows[7] == 0x5555);
+    EXPECT(row->name[0] == 0x6572726e6f000000 && row->name[1] == 0 && row->name[3] == 0);
+    memset(list, 0x55, sizeof list);
+    v = xcoff_table_fill(file, length, table, 1, list, 8);
+    EXPECT(REFUSED(v, 20, 2, 0) && list[0] == 0x5555555555555555);
+    v = xcoff_table_fill(file, length, table, 2, list, 9);
+    EXPECT(ACCEPTED(v) && list[0] == 7 && list[1] == 0 && list[3] == 0 && list[8] == 0);
+    v = xcoff_table_remove(table, 2, 1, name, 5);
+    EXPECT(ACCEPTED(v));
+    v = xcoff_table_fill(file, length, table, 2, list, 9);
+    EXPECT(ACCEPTED(v) && list[0] == 0);
+    v = xcoff_table_fill(file, 10, table, 1, list, 9);
+    EXPECT(REFUSED(v, 1, 0, 0));
+}
+
 static void module(void)
 {
     xcoff_module_answer m = xcoff_module(file, length);
@@ -535,6 +582,7 @@ int main(int argc, char **argv)
     symbols();
     visibilities();
     lines();
+    address_table();
     module();
     offsets();
     images();

@@ -170,6 +170,29 @@ def line_case(case):
     return "find_line %s = %s" % (words(case, "section", "address"), given)
 
 
+def table_call(call):
+    """A call on the address table. A fill has the module's file."""
+    if call["call"] == "fill":
+        return "fill %x %s %s" % (call["bench"], hexed(file_of(call)), numbers(call["list"]))
+    key = "%x %x %s" % (call["bench"], call["file_id"], bytes_of(call["name"]))
+    return "add %s %x" % (key, call["address"]) if call["call"] == "add" else "%s %s" % (call["call"], key)
+
+
+def table_answer(call, answer):
+    if call["call"] == "fill":
+        return "%s / %s" % (refused(answer[0]) or "filled", numbers(answer[1]))
+    if answer is None:
+        return "done"
+    return refused(answer) or "%x" % answer
+
+
+def table_case(case):
+    """Calls on one table, which starts empty."""
+    answers = [table_answer(*both) for both in zip(case["calls"], case["expect"]["answer"])]
+    assert len(answers) == len(case["calls"])
+    return "table %s = %s" % (" ".join(map(table_call, case["calls"])), " ; ".join(answers))
+
+
 def changes(before, after):
     """Where bytes differ from others of the same length: each run by its offset, between commas; - where none does."""
     runs, at = [], 0
@@ -230,6 +253,8 @@ def whole_line(case):
         return record_case(case)
     if case["op"] == "find_line":
         return line_case(case)
+    if case["op"] == "table":
+        return table_case(case)
     if case["op"] in ("salvage",):
         return file_case(case)
     answer = case["expect"]["answer"]

@@ -64,7 +64,7 @@ string-within file strings o i h =
     (λ p. either (Within (length file)) (eqb (firstZero (take n (drop (strings .start .0 + o) file))) (n - 1))
     (λ _. let k = past-not o n (strings .length) (or-second empty far p) in omega arith) (λ _. tt)))
 
-name-in-file : (file : List ℕ) (strings : FileRange) (base i : ℕ) (n : NameField) → strings .start .0 + strings .length ≤ length file → base + loaderSymbolLength ≤ length file → Within (length file) (nameIn file strings base i n)
+pub name-in-file : (file : List ℕ) (strings : FileRange) (base i : ℕ) (n : NameField) → strings .start .0 + strings .length ≤ length file → base + loaderSymbolLength ≤ length file → Within (length file) (nameIn file strings base i n)
 unfolding nameIn
 name-in-file file strings base i Short h k = text-inside shortName base file (omega arith)
 name-in-file file strings base i (Offset o) h k = string-within file strings o i h

@@ -23,7 +23,7 @@ length-numbers s off zero = refl
 length-numbers s off (suc n) = ap suc (length-numbers s (off + 8) n)
 
 -- each address takes 8 bytes
-length-addresses : (list : List ℕ) → length (addressBytes list) ≡ length list * 8
+pub length-addresses : (list : List ℕ) → length (addressBytes list) ≡ length list * 8
 unfolding addressBytes
 length-addresses [] = refl
 length-addresses (a ∷ list) =

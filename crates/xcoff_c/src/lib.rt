@@ -12,7 +12,7 @@ ghost use Rattle.import_id.specs.Import.{importAt};
 ghost use lib.ListN.{length};
 ghost use Rattle.sheet.specs.Sheet.{headAnswer, readAnswer, readList, writeCheck, writeSheet, sheetHead, reportOfSheet};
 ghost use Rattle.history.specs.Images.{images};
-ghost use Rattle.history.specs.Call.{Call, build, move, answerOf, effect};
+ghost use Rattle.history.specs.Call.{build, move, answerOf, effect};
 ghost use Rattle.history.specs.Book.{bookImages, bookAfter};
 ghost use Rattle.plan.specs.Relocatable.{relocatableAt};
 ghost use Rattle.image.specs.Report.{reportOfCall};
@@ -27,7 +27,12 @@ ghost use Rattle.import_table.specs.Imports.{imports};
 ghost use Rattle.line_lookup.specs.Lookup.{countReport, lineReport};
 ghost use Rattle.line_table.specs.Table.{lineTableCheck, linesAfter};
 ghost use Rattle.salvage.specs.Answer.{countAnswer, salvageAnswer, copyAfter, reportAfter, reportOfCount};
+ghost use Rattle.address_book.specs.Book.{key};
+ghost use Rattle.address_book.specs.Call.{Call, checkOf, numberOf, memoryIn, reportOfNumber};
+ghost use Rattle.address_table.specs.Table.{bookOf, contentsAfter};
+ghost use Rattle.address_fill.specs.Fill.{placesAt};
 ghost use Rattle.offset.specs.Report.{reportHead, reportOfRange};
+use address_book::NumberReport;
 use csect_lookup::CsectReport;
 use displacement::Addresses;
 use format::SectionNumber;
@@ -407,4 +412,77 @@ pub extern "C" fn xcoff_salvage(file: &[u8], copy: &mut [u8], report: &mut [u8])
     ensures reported { λ _. ⌜ now (report .exit) ≡ reportAfter (now (file .entry)) (length (now (copy .entry))) (now (report .entry)) ⌝ }
 {
     salvage::report_count(file, salvage::salvage(file, copy, report))
+}
+
+// Adds a bench's row to the address table, or replaces its address.
+#[no_mangle]
+pub extern "C" fn xcoff_table_add(
+    table: &mut [u64; 4097],
+    bench: u64,
+    file_id: u64,
+    name: &[u8],
+    address: u64,
+) -> Head
+    ensures answer { λ r. ⌜ r ≡ sheetHead (checkOf (bookOf (now (table .entry))) (Call.add (key bench «file_id» (now (name .entry))) address)) ⌝ }
+    ensures table { λ _. ⌜ now (table .exit) ≡ contentsAfter (now (table .entry)) (Call.add (key bench «file_id» (now (name .entry))) address) ⌝ }
+{
+    sheet::report_head(address_table::table_add(table, bench, file_id, name, address))
+}
+
+// Removes a bench's row.
+#[no_mangle]
+pub extern "C" fn xcoff_table_remove(
+    table: &mut [u64; 4097],
+    bench: u64,
+    file_id: u64,
+    name: &[u8],
+) -> Head
+    ensures answer { λ r. ⌜ r ≡ sheetHead (checkOf (bookOf (now (table .entry))) (Call.remove (key bench «file_id» (now (name .entry))))) ⌝ }
+    ensures table { λ _. ⌜ now (table .exit) ≡ contentsAfter (now (table .entry)) (Call.remove (key bench «file_id» (now (name .entry)))) ⌝ }
+{
+    sheet::report_head(address_table::table_remove(table, bench, file_id, name))
+}
+
+// The address of a bench's row.
+#[no_mangle]
+pub extern "C" fn xcoff_table_find(
+    table: &[u64; 4097],
+    bench: u64,
+    file_id: u64,
+    name: &[u8],
+) -> NumberReport
+    ensures { λ r. ⌜ r ≡ reportOfNumber (numberOf (bookOf (now (table .entry))) (Call.look (key bench «file_id» (now (name .entry))))) ⌝ }
+{
+    address_book::report_number(address_table::table_find(table, bench, file_id, name))
+}
+
+// Writes the list of a plan for a module from a bench's rows.
+#[no_mangle]
+pub extern "C" fn xcoff_table_fill(
+    file: &[u8],
+    table: &[u64; 4097],
+    bench: u64,
+    list: &mut [u64],
+) -> Head
+    ensures answer { λ r. ⌜ r ≡ reportHead (now (file .entry)) (checkOf (bookOf (now (table .entry))) (Call.fill bench (placesAt (now (file .entry))) (length (now (list .entry))))) ⌝ }
+    ensures list { λ _. ⌜ now (list .exit) ≡ memoryIn (length (bookOf (now (table .entry)))) (bookOf (now (table .entry))) (Call.fill bench (placesAt (now (file .entry))) (length (now (list .entry)))) (now (list .entry)) ⌝ }
+{
+    offset::report_head(file, address_fill::table_fill(file, table, bench, list))
+}
+
+// How many rows a bench has.
+#[no_mangle]
+pub extern "C" fn xcoff_table_count(table: &[u64; 4097], bench: u64) -> NumberReport
+    ensures { λ r. ⌜ r ≡ reportOfNumber (numberOf (bookOf (now (table .entry))) (Call.count bench)) ⌝ }
+{
+    address_book::report_number(address_list::table_count(table, bench))
+}
+
+// Lists a bench's rows in the order of file id and name: a row of 7 numbers for each.
+#[no_mangle]
+pub extern "C" fn xcoff_table_rows(table: &[u64; 4097], bench: u64, rows: &mut [u64]) -> Head
+    ensures answer { λ r. ⌜ r ≡ sheetHead (checkOf (bookOf (now (table .entry))) (Call.list bench (length (now (rows .entry))))) ⌝ }
+    ensures rows { λ _. ⌜ now (rows .exit) ≡ memoryIn (length (bookOf (now (table .entry)))) (bookOf (now (table .entry))) (Call.list bench (length (now (rows .entry)))) (now (rows .entry)) ⌝ }
+{
+    sheet::report_head(address_list::table_rows(table, bench, rows))
 }

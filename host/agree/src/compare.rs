@@ -1,6 +1,6 @@
 //! One operation, run by both implementations.
 
-use crate::{images, later, lines, places, read, records, salvages};
+use crate::{address_table, images, later, lines, places, read, records, salvages};
 use reference::generate::Op;
 use reference::Refusal;
 use std::fmt::Debug;
@@ -29,7 +29,7 @@ pub struct Agreed {
 pub type Agreement = Result<Agreed, Difference>;
 
 /// Compares everything that the operation gives, the buffers afterwards included, and looks at what stands where its
-/// refusals point.
+/// refusals point, if the library has them.
 pub fn compare(file: &[u8], op: &Op) -> Agreement {
     let agreed = run_both(file, op)?;
     // What the library does not have yet it cannot show either.
@@ -65,6 +65,7 @@ fn run_both(file: &[u8], op: &Op) -> Agreement {
             data,
         } => records::read(file, plan, records, (text, data)),
         Op::FindLine { section, address } => lines::find(file, *section, *address),
+        Op::Table(calls) => address_table::calls(file, calls),
         Op::Salvage { copy, report } => salvages::salvage(file, copy, report),
         _ if later::is_later(op) => later::alone(file, op),
         _ => read::read(file, op),

@@ -2,6 +2,7 @@
 //! generated files. The test `agree` runs a few thousand cases, the program `soak` as many as asked for.
 #![forbid(unsafe_code)]
 
+mod address_table;
 mod compare;
 mod every;
 mod images;

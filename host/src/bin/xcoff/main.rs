@@ -35,6 +35,7 @@ mod salvage;
 mod shown;
 mod symbols;
 mod syntax;
+mod table;
 mod values;
 mod warnings;
 mod words;

@@ -2,7 +2,9 @@
 
 use crate::args::Arguments;
 use crate::problem::Problem;
-use crate::{check, dump, images, line, lined, lists, map, plans, records, salvage, symbols};
+use crate::{
+    check, dump, images, line, lined, lists, map, plans, records, salvage, symbols, table,
+};
 
 pub struct Command {
     pub name: &'static str,
@@ -73,7 +75,7 @@ const fn lister(
     }
 }
 
-pub static COMMANDS: [Command; 17] = [
+pub static COMMANDS: [Command; 18] = [
     lister(
         "headers",
         "the file header and the sections",
@@ -140,7 +142,7 @@ pub static COMMANDS: [Command; 17] = [
     },
     Command {
         name: "plan",
-        usage: "FILE [--text HEX] [--data HEX] [--import NAME=HEX]... [--imports IMPORTS] [--from OLD] [--recorded] -o SHEET [--force] [--no-wait]",
+        usage: "FILE [--text HEX] [--data HEX] [--import NAME=HEX]... [--imports IMPORTS] [--from OLD | --table TABLE --bench N] [--recorded] -o SHEET [--force] [--no-wait]",
         operands: &["FILE"],
         optional: 0,
         options: &[
@@ -149,6 +151,8 @@ pub static COMMANDS: [Command; 17] = [
             repeated("--import", &["NAME=HEX"]),
             flag("--imports", &["IMPORTS"]),
             flag("--from", &["OLD"]),
+            flag("--table", &["TABLE"]),
+            flag("--bench", &["N"]),
             flag("--recorded", &[]),
             required("-o", &["SHEET"]),
             FORCE,
@@ -157,6 +161,23 @@ pub static COMMANDS: [Command; 17] = [
         summary: "writes a plan sheet: the addresses of one card",
         help: PLAN,
         run: plans::plan,
+    },
+    Command {
+        name: "table",
+        usage: "TABLE {new|add|remove|find|list|fill} [BENCH [ID NAME [HEX] | FILE]] [--text HEX] [--data HEX] [-o SHEET] [--json] [--force] [--no-wait]",
+        operands: &["TABLE", "ACTION"],
+        optional: 4,
+        options: &[
+            flag("--text", &["HEX"]),
+            flag("--data", &["HEX"]),
+            flag("-o", &["SHEET"]),
+            flag("--json", &[]),
+            FORCE,
+            NO_WAIT,
+        ],
+        summary: "the benches' table of addresses of imports",
+        help: TABLE,
+        run: table::table,
     },
     Command {
         name: "sheet",
@@ -505,10 +526,41 @@ as the module's own, are warned of.
                      NAME HEX or @INDEX HEX. Lines that are empty or begin with #
                      are left out. An import may be given once, here or there
 --from OLD           an older sheet of the module: what is not given is as there
+--table TABLE        an address table ('xcoff table'): imports that are not given
+--bench N            have the addresses of bench N's rows; those without a row have
+                     their recorded address and are listed, also where that is 0
 --recorded           leaves imports at address 0 where nobody gave another
 -o SHEET             the sheet to write; an old one is replaced whole
 --force              replaces an XCOFF file too
 --no-wait            ends, with status 3, where another xcoff writes in the folder
+";
+
+const TABLE: &str = "\
+Keeps addresses of imports in one file for both benches, 512 rows in all. A row has a
+bench, 1 or 2, the id of the file that is imported from ('xcoff imports' lists ids),
+a name of at most 32 bytes, as listings show it, and an address. Each bench adds,
+removes, finds and lists its own rows; none of that shows or changes the other's.
+
+  xcoff table share/imports.table new
+  xcoff table share/imports.table add 1 2 puts fff01200
+  xcoff table share/imports.table fill 1 diag.xcoff --text 10000 --data 80000 -o card7.sheet
+
+new                     makes an empty table; a file that is there is not replaced
+add BENCH ID NAME HEX   adds a row; one that is there gets the new address
+remove BENCH ID NAME    removes a row
+find BENCH ID NAME      lists one row
+list BENCH              lists the bench's rows, by id and name
+fill BENCH FILE         writes a plan sheet for FILE: imports have the addresses of
+                        the bench's rows; those without a row have their recorded
+                        address and are listed
+
+A command that changes the table holds the lock of its folder while it reads, changes
+and replaces the file, so that two benches lose nothing; another waits for it.
+
+--text HEX, --data HEX  with fill, as in 'xcoff plan'
+-o SHEET, --force       with fill, as in 'xcoff plan'
+--json                  with find and list: one object a line
+--no-wait               ends, with status 3, where another xcoff writes in the folder
 ";
 
 const SHEET: &str = "\

@@ -1,0 +1,2 @@
+-- What the contracts of `address_list` cite.
+pub mod Numbers

@@ -1,0 +1,4 @@
+-- The laws of key words, for the crates above.
+
+pub mod Words
+pub mod Good

@@ -1,0 +1,3 @@
+-- What the contracts of `address_table` cite.
+pub mod Table
+pub mod Run
