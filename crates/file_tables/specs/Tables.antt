@@ -36,6 +36,10 @@ blankSection =
       vaddr = record { 0 = 0 };
       size = 0;
       scnptr = record { 0 = 0 };
+      relptr = record { 0 = 0 };
+      lnnoptr = record { 0 = 0 };
+      nreloc = 0;
+      nlnno = 0;
       raw = false;
     }
 

@@ -39,6 +39,10 @@ pub fn blank_section() -> Section
         vaddr: VirtualAddress(0),
         size: 0,
         scnptr: FileOffset(0),
+        relptr: FileOffset(0),
+        lnnoptr: FileOffset(0),
+        nreloc: 0,
+        nlnno: 0,
         raw: false,
     }
 }

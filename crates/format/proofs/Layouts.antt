@@ -40,11 +40,15 @@ pub record SectionInside (l : SectionLayout) (base n : ℕ) : Type 0 where
   pub vaddr : FieldInside (l .vaddr) base n
   pub size : FieldInside (l .size) base n
   pub scnptr : FieldInside (l .scnptr) base n
+  pub relptr : FieldInside (l .relptr) base n
+  pub lnnoptr : FieldInside (l .lnnoptr) base n
+  pub nreloc : FieldInside (l .nreloc) base n
+  pub nlnno : FieldInside (l .nlnno) base n
   pub flags : FieldInside (l .flags) base n
 
 section-fields : (f : Format) (base n : ℕ) → base + sectionLayout f .length ≤ n → SectionInside (sectionLayout f) base n
-section-fields Xcoff32 base n h = record { name = omega arith; paddr = omega arith; vaddr = omega arith; size = omega arith; scnptr = omega arith; flags = omega arith }
-section-fields Xcoff64 base n h = record { name = omega arith; paddr = omega arith; vaddr = omega arith; size = omega arith; scnptr = omega arith; flags = omega arith }
+section-fields Xcoff32 base n h = record { name = omega arith; paddr = omega arith; vaddr = omega arith; size = omega arith; scnptr = omega arith; relptr = omega arith; lnnoptr = omega arith; nreloc = omega arith; nlnno = omega arith; flags = omega arith }
+section-fields Xcoff64 base n h = record { name = omega arith; paddr = omega arith; vaddr = omega arith; size = omega arith; scnptr = omega arith; relptr = omega arith; lnnoptr = omega arith; nreloc = omega arith; nlnno = omega arith; flags = omega arith }
 
 pub section-inside : (f : Format) {l : SectionLayout} (base n : ℕ) → l ≡ sectionLayout f → base + sectionLayout f .length ≤ n → SectionInside l base n
 section-inside f base n e h = rw e (section-fields f base n h)

@@ -54,6 +54,10 @@ sectionLayout Xcoff32 =
       vaddr = field 12 Four;
       size = field 16 Four;
       scnptr = field 20 Four;
+      relptr = field 24 Four;
+      lnnoptr = field 28 Four;
+      nreloc = field 32 Two;
+      nlnno = field 34 Two;
       flags = field 36 Four;
       length = 40;
     }
@@ -64,6 +68,10 @@ sectionLayout Xcoff64 =
       vaddr = field 16 Eight;
       size = field 24 Eight;
       scnptr = field 32 Eight;
+      relptr = field 40 Eight;
+      lnnoptr = field 48 Eight;
+      nreloc = field 56 Four;
+      nlnno = field 60 Four;
       flags = field 64 Four;
       length = 72;
     }

@@ -40,6 +40,10 @@ pub example-opens : openOf example ≡ record {
       vaddr = record { 0 = 0x10000000 };
       size = 4;
       scnptr = record { 0 = 60 };
+      relptr = record { 0 = 0 };
+      lnnoptr = record { 0 = 0 };
+      nreloc = 0;
+      nlnno = 0;
       raw = true;
     });
     symbols = tableAt 0 0 0 0;

@@ -16,11 +16,11 @@ use Rattle.format.specs.declared.MagicAnswer.the-variants as magic
 use Rattle.format.specs.Layout.{magicField, formatOf, sectionLayout, symbolLength, loaderSymbolLength, relocationLayout}
 use Rattle.format.specs.Limit.{fileLimit}
 use Rattle.refusal.specs.declared.Refusal.{Refusal}
-use Rattle.refusal.specs.declared.Refusal.the-variants.{Short, Magic, Limit, Kind, Bounds, Address, Strings, Index, Aux, Name, Scnum, Csect, Module, Thread, Loader, Lsym, Lrel, Overlap, Plan, Room, Sheet, Record, Form, Clash, Visibility}
+use Rattle.refusal.specs.declared.Refusal.the-variants.{Short, Magic, Limit, Kind, Bounds, Address, Strings, Index, Aux, Name, Scnum, Csect, Module, Thread, Loader, Lsym, Lrel, Overlap, Plan, Room, Sheet, Record, Form, Clash, Full, Absent, Long, Shared, Visibility, NoLine, Group}
 use Rattle.refusal.specs.declared.LimitItem.{LimitItem}
-use Rattle.refusal.specs.declared.LimitItem.the-variants.{File, Sections, LoaderSymbols, SheetList, Relocations, DataImage}
+use Rattle.refusal.specs.declared.LimitItem.the-variants.{File, Sections, LoaderSymbols, SheetList, Relocations, DataImage, SalvageReport}
 use Rattle.refusal.specs.declared.BoundsItem.{BoundsItem}
-use Rattle.refusal.specs.declared.BoundsItem.the-variants.{RawData, SymbolTable, StringTable}
+use Rattle.refusal.specs.declared.BoundsItem.the-variants.{RawData, SectionTable, SymbolTable, StringTable}
 use Rattle.refusal.specs.declared.AddressItem.{AddressItem}
 use Rattle.refusal.specs.declared.AddressItem.the-variants.{Misplaced, BssBelowData}
 use Rattle.refusal.specs.declared.ThreadItem.{ThreadItem}
@@ -74,9 +74,11 @@ module _ (s : Starts) (b : Within s) where
   limit-in Sections = omega arith
   limit-in SheetList = omega arith
   limit-in DataImage = omega arith
+  limit-in SalvageReport = omega arith
 
   bounds-in : (i : BoundsItem) → boundsPlace s i ≤ s .length
   bounds-in (RawData n) = header-in (n .0)
+  bounds-in (SectionTable n) = header-in (n .0)
   bounds-in SymbolTable = omega arith
   bounds-in StringTable = omega arith
 
@@ -114,6 +116,12 @@ module _ (s : Starts) (b : Within s) where
   offset-in (Record i) = omega arith
   offset-in Form = omega arith
   offset-in Clash = omega arith
+  offset-in Full = omega arith
+  offset-in Absent = omega arith
+  offset-in Long = omega arith
+  offset-in Shared = omega arith
+  offset-in NoLine = omega arith
+  offset-in Group = omega arith
 
 module _ (file : List ℕ) where
   abbrev Inside : StartsAnswer → Type 0

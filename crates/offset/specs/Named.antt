@@ -8,11 +8,11 @@ use Rattle.format.specs.declared.MagicAnswer.{MagicAnswer}
 use Rattle.format.specs.declared.MagicAnswer.the-variants.{Known, Unknown}
 use Rattle.format.specs.Layout.{magicField, formatOf, sectionLayout, symbolLength, loaderSymbolLength, relocationLayout}
 use Rattle.refusal.specs.declared.Refusal.{Refusal}
-use Rattle.refusal.specs.declared.Refusal.the-variants.{Short, Magic, Limit, Kind, Bounds, Address, Strings, Index, Aux, Name, Scnum, Csect, Module, Thread, Loader, Lsym, Lrel, Overlap, Plan, Room, Sheet, Record, Form, Clash, Visibility}
+use Rattle.refusal.specs.declared.Refusal.the-variants.{Short, Magic, Limit, Kind, Bounds, Address, Strings, Index, Aux, Name, Scnum, Csect, Module, Thread, Loader, Lsym, Lrel, Overlap, Plan, Room, Sheet, Record, Form, Clash, Full, Absent, Long, Shared, Visibility, NoLine, Group}
 use Rattle.refusal.specs.declared.LimitItem.{LimitItem}
-use Rattle.refusal.specs.declared.LimitItem.the-variants.{File, Sections, LoaderSymbols, SheetList, Relocations, DataImage}
+use Rattle.refusal.specs.declared.LimitItem.the-variants.{File, Sections, LoaderSymbols, SheetList, Relocations, DataImage, SalvageReport}
 use Rattle.refusal.specs.declared.BoundsItem.{BoundsItem}
-use Rattle.refusal.specs.declared.BoundsItem.the-variants.{RawData, SymbolTable, StringTable}
+use Rattle.refusal.specs.declared.BoundsItem.the-variants.{RawData, SectionTable, SymbolTable, StringTable}
 use Rattle.refusal.specs.declared.AddressItem.{AddressItem}
 use Rattle.refusal.specs.declared.AddressItem.the-variants.{Misplaced, BssBelowData}
 use Rattle.refusal.specs.declared.ThreadItem.{ThreadItem}
@@ -68,9 +68,11 @@ module _ (file : List ℕ) (h : FileHeader) where
   NamesLimit Sections off = off ≡ 0
   NamesLimit SheetList off = off ≡ 0
   NamesLimit DataImage off = off ≡ 0
+  NamesLimit SalvageReport off = off ≡ 0
 
   abbrev pub NamesBounds : BoundsItem → ℕ → Type 0
   NamesBounds (RawData n) off = NamesHeader (n .0) off
+  NamesBounds (SectionTable n) off = NamesHeader (n .0) off
   NamesBounds SymbolTable off = off ≡ 0
   NamesBounds StringTable off = off ≡ 0
 
@@ -109,6 +111,12 @@ module _ (file : List ℕ) (h : FileHeader) where
   Names (Record i) off = off ≡ 0
   Names Form off = off ≡ 0
   Names Clash off = off ≡ 0
+  Names Full off = off ≡ 0
+  Names Absent off = off ≡ 0
+  Names Long off = off ≡ 0
+  Names Shared off = off ≡ 0
+  Names NoLine off = off ≡ 0
+  Names Group off = off ≡ 0
 
 abbrev pub NamedBy : List ℕ → MagicAnswer → Refusal → Type 0
 NamedBy file Unknown x = offsetOf file x ≡ 0

@@ -14,11 +14,11 @@ use Rattle.format.specs.declared.MagicAnswer.the-variants as magic
 use Rattle.format.specs.Layout.{magicField, formatOf, sectionLayout, symbolLength, loaderLayout, loaderSymbolLength, relocationLayout}
 use Rattle.format.specs.Limit.{fileLimit}
 use Rattle.refusal.specs.declared.Refusal.{Refusal}
-use Rattle.refusal.specs.declared.Refusal.the-variants.{Short, Magic, Limit, Kind, Bounds, Address, Strings, Index, Aux, Name, Scnum, Csect, Module, Thread, Loader, Lsym, Lrel, Overlap, Plan, Room, Sheet, Record, Form, Clash, Visibility}
+use Rattle.refusal.specs.declared.Refusal.the-variants.{Short, Magic, Limit, Kind, Bounds, Address, Strings, Index, Aux, Name, Scnum, Csect, Module, Thread, Loader, Lsym, Lrel, Overlap, Plan, Room, Sheet, Record, Form, Clash, Full, Absent, Long, Shared, Visibility, NoLine, Group}
 use Rattle.refusal.specs.declared.LimitItem.{LimitItem}
-use Rattle.refusal.specs.declared.LimitItem.the-variants.{File, Sections, LoaderSymbols, SheetList, Relocations, DataImage}
+use Rattle.refusal.specs.declared.LimitItem.the-variants.{File, Sections, LoaderSymbols, SheetList, Relocations, DataImage, SalvageReport}
 use Rattle.refusal.specs.declared.BoundsItem.{BoundsItem}
-use Rattle.refusal.specs.declared.BoundsItem.the-variants.{RawData, SymbolTable, StringTable}
+use Rattle.refusal.specs.declared.BoundsItem.the-variants.{RawData, SectionTable, SymbolTable, StringTable}
 use Rattle.refusal.specs.declared.AddressItem.{AddressItem}
 use Rattle.refusal.specs.declared.AddressItem.the-variants.{Misplaced, BssBelowData}
 use Rattle.refusal.specs.declared.ThreadItem.{ThreadItem}
@@ -108,9 +108,11 @@ limitPlace s File = 0
 limitPlace s Sections = 0
 limitPlace s SheetList = 0
 limitPlace s DataImage = 0
+limitPlace s SalvageReport = 0
 
 abbrev pub boundsPlace : Starts → BoundsItem → ℕ
 boundsPlace s (RawData n) = headerPlace s (n .0)
+boundsPlace s (SectionTable n) = headerPlace s (n .0)
 boundsPlace s SymbolTable = 0
 boundsPlace s StringTable = 0
 
@@ -149,6 +151,12 @@ offsetIn s Sheet = 0
 offsetIn s (Record i) = 0
 offsetIn s Form = 0
 offsetIn s Clash = 0
+offsetIn s Full = 0
+offsetIn s Absent = 0
+offsetIn s Long = 0
+offsetIn s Shared = 0
+offsetIn s NoLine = 0
+offsetIn s Group = 0
 
 abbrev pub offsetBy : StartsAnswer → Refusal → ℕ
 offsetBy Unknown x = 0

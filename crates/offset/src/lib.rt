@@ -208,6 +208,7 @@ fn limit_place(s: Starts, i: LimitItem) -> u64
         LimitItem::Sections => 0,
         LimitItem::SheetList => 0,
         LimitItem::DataImage => 0,
+        LimitItem::SalvageReport => 0,
     }
 }
 
@@ -217,6 +218,7 @@ fn bounds_place(s: Starts, i: BoundsItem) -> u64
 {
     match i {
         BoundsItem::RawData(n) => header_place(s, n.0),
+        BoundsItem::SectionTable(n) => header_place(s, n.0),
         BoundsItem::SymbolTable => 0,
         BoundsItem::StringTable => 0,
     }
@@ -272,6 +274,12 @@ fn offset_in(s: Starts, x: Refusal) -> u64
         Refusal::Record(_) => 0,
         Refusal::Form => 0,
         Refusal::Clash => 0,
+        Refusal::Full => 0,
+        Refusal::Absent => 0,
+        Refusal::Long => 0,
+        Refusal::Shared => 0,
+        Refusal::NoLine => 0,
+        Refusal::Group => 0,
     }
 }
 

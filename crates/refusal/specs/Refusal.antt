@@ -2,13 +2,13 @@
 use Prim.Native.Nat.{ℕ}
 use mathlib.Core.Bool.{Bool, true, false, cond}
 use Rattle.refusal.specs.declared.LimitItem.{LimitItem}
-use Rattle.refusal.specs.declared.LimitItem.the-variants.{File, Sections, LoaderSymbols, SheetList, Relocations, DataImage}
+use Rattle.refusal.specs.declared.LimitItem.the-variants.{File, Sections, LoaderSymbols, SheetList, Relocations, DataImage, SalvageReport}
 use Rattle.refusal.specs.declared.BoundsItem.{BoundsItem}
-use Rattle.refusal.specs.declared.BoundsItem.the-variants.{RawData, SymbolTable, StringTable}
+use Rattle.refusal.specs.declared.BoundsItem.the-variants.{RawData, SectionTable, SymbolTable, StringTable}
 use Rattle.refusal.specs.declared.AddressItem.{AddressItem}
 use Rattle.refusal.specs.declared.AddressItem.the-variants.{Misplaced, BssBelowData}
 use Rattle.refusal.specs.declared.IndexItem.{IndexItem}
-use Rattle.refusal.specs.declared.IndexItem.the-variants.{NoSection, NoSymbol, NoLoaderSymbol, NoImportId}
+use Rattle.refusal.specs.declared.IndexItem.the-variants.{NoSection, NoSymbol, NoLoaderSymbol, NoImportId, NoBench}
 use Rattle.refusal.specs.declared.ModuleItem.{ModuleItem}
 use Rattle.refusal.specs.declared.ModuleItem.the-variants.{ShortAuxHeader, SectionSet, AuxHeaderDiffers, NoRawData, EntryOrToc}
 use Rattle.refusal.specs.declared.ThreadItem.{ThreadItem}
@@ -18,9 +18,9 @@ use Rattle.refusal.specs.declared.LoaderItem.the-variants.{ShortHeader, 
 use Rattle.refusal.specs.declared.PlanItem.{PlanItem}
 use Rattle.refusal.specs.declared.PlanItem.the-variants.{TextAddress, DataAddress, ImportAddress}
 use Rattle.refusal.specs.declared.RoomItem.{RoomItem}
-use Rattle.refusal.specs.declared.RoomItem.the-variants.{TextBuffer, SheetBuffer, RowBuffer, RecordBuffer, DataBuffer, AddressList}
+use Rattle.refusal.specs.declared.RoomItem.the-variants.{TextBuffer, SheetBuffer, RowBuffer, RecordBuffer, FileBuffer, DataBuffer, AddressList}
 use Rattle.refusal.specs.declared.Refusal.{Refusal}
-use Rattle.refusal.specs.declared.Refusal.the-variants.{Short, Magic, Limit, Kind, Bounds, Address, Strings, Index, Aux, Name, Scnum, Csect, Module, Thread, Loader, Lsym, Lrel, Overlap, Plan, Room, Sheet, Record, Form, Clash, Visibility}
+use Rattle.refusal.specs.declared.Refusal.the-variants.{Short, Magic, Limit, Kind, Bounds, Address, Strings, Index, Aux, Name, Scnum, Csect, Module, Thread, Loader, Lsym, Lrel, Overlap, Plan, Room, Sheet, Record, Form, Clash, Full, Absent, Long, Shared, Visibility, NoLine, Group}
 use Rattle.refusal.specs.declared.Head.{Head}
 use Rattle.refusal.specs.declared.Verdict.{Verdict}
 use Rattle.refusal.specs.declared.Verdict.the-variants.{Accepted, Refused}
@@ -51,7 +51,13 @@ numberOf Sheet = 21
 numberOf (Record i) = 22
 numberOf Form = 23
 numberOf Clash = 24
+numberOf Full = 26
+numberOf Absent = 27
+numberOf Long = 28
+numberOf Shared = 29
 numberOf (Visibility i) = 30
+numberOf NoLine = 31
+numberOf Group = 32
 
 -- the items of the numbers that name several things
 abbrev pub limitItem : LimitItem → ℕ
@@ -61,9 +67,11 @@ limitItem LoaderSymbols = 2
 limitItem SheetList = 2
 limitItem Relocations = 3
 limitItem DataImage = 4
+limitItem SalvageReport = 5
 
 abbrev pub boundsItem : BoundsItem → ℕ
 boundsItem (RawData i) = i .0
+boundsItem (SectionTable i) = i .0
 boundsItem SymbolTable = 0
 boundsItem StringTable = 0
 
@@ -76,6 +84,7 @@ indexItem (NoSection i) = i .0
 indexItem (NoSymbol i) = i .0
 indexItem (NoLoaderSymbol i) = i
 indexItem (NoImportId i) = i
+indexItem (NoBench i) = i
 
 abbrev pub moduleItem : ModuleItem → ℕ
 moduleItem ShortAuxHeader = 0
@@ -106,6 +115,7 @@ roomItem TextBuffer = 0
 roomItem SheetBuffer = 0
 roomItem RowBuffer = 0
 roomItem RecordBuffer = 0
+roomItem FileBuffer = 0
 roomItem DataBuffer = 1
 roomItem AddressList = 2
 
@@ -135,7 +145,13 @@ itemOf Sheet = 0
 itemOf (Record i) = i
 itemOf Form = 0
 itemOf Clash = 0
+itemOf Full = 0
+itemOf Absent = 0
+itemOf Long = 0
+itemOf Shared = 0
 itemOf (Visibility i) = i .0
+itemOf NoLine = 0
+itemOf Group = 0
 
 -- what every report starts with: three zeros where the call is accepted
 abbrev pub acceptedHead : Head

@@ -16,11 +16,15 @@ pub enum LimitItem {
     SheetList,
     Relocations,
     DataImage,
+    // the report of a salvage, judged last
+    SalvageReport,
 }
 
 // 5 BOUNDS: what passes the file's end.
 pub enum BoundsItem {
     RawData(SectionNumber),
+    // a section's relocation or line table, or its overflow header is not there exactly once
+    SectionTable(SectionNumber),
     SymbolTable,
     StringTable,
 }
@@ -37,6 +41,8 @@ pub enum IndexItem {
     NoSymbol(SymbolIndex),
     NoLoaderSymbol(u64),
     NoImportId(u64),
+    // of the address table
+    NoBench(u64),
 }
 
 // 13 MODULE: why a file is not loadable.
@@ -82,11 +88,13 @@ pub enum RoomItem {
     RowBuffer,
     // the record text, judged after both images
     RecordBuffer,
+    // a whole file: a module written for a plan, or a salvaged copy
+    FileBuffer,
     DataBuffer,
     AddressList,
 }
 
-// In the order of the numbers, 1 SHORT to 24 CLASH, and 30 VISIBILITY.
+// In the order of the numbers, 1 SHORT to 24 CLASH and 26 FULL to 32 GROUP.
 pub enum Refusal {
     // the file or header area ends early
     Short,
@@ -125,8 +133,20 @@ pub enum Refusal {
     Form,
     // text and data share an address
     Clash,
+    // all rows of the address table are taken
+    Full,
+    // no such row of the address table
+    Absent,
+    // no name that a row of the address table can have
+    Long,
+    // parts of the file that must be apart share a byte
+    Shared,
     // a symbol type with visibility bits that mean nothing
     Visibility(SymbolIndex),
+    // no line entry at or below the address
+    NoLine,
+    // a line entry before any function entry
+    Group,
 }
 
 // Whether something is taken.
@@ -160,6 +180,7 @@ fn limit_item(x: LimitItem) -> u64
         LimitItem::SheetList => 2,
         LimitItem::Relocations => 3,
         LimitItem::DataImage => 4,
+        LimitItem::SalvageReport => 5,
     }
 }
 
@@ -168,6 +189,7 @@ fn bounds_item(x: BoundsItem) -> u64
 {
     match x {
         BoundsItem::RawData(n) => n.0,
+        BoundsItem::SectionTable(n) => n.0,
         BoundsItem::SymbolTable => 0,
         BoundsItem::StringTable => 0,
     }
@@ -190,6 +212,7 @@ fn index_item(x: IndexItem) -> u64
         IndexItem::NoSymbol(n) => n.0,
         IndexItem::NoLoaderSymbol(i) => i,
         IndexItem::NoImportId(i) => i,
+        IndexItem::NoBench(i) => i,
     }
 }
 
@@ -245,6 +268,7 @@ fn room_item(x: RoomItem) -> u64
         RoomItem::SheetBuffer => 0,
         RoomItem::RowBuffer => 0,
         RoomItem::RecordBuffer => 0,
+        RoomItem::FileBuffer => 0,
         RoomItem::DataBuffer => 1,
         RoomItem::AddressList => 2,
     }
@@ -279,7 +303,13 @@ pub fn number(x: Refusal) -> u64
         Refusal::Record(_) => 22,
         Refusal::Form => 23,
         Refusal::Clash => 24,
+        Refusal::Full => 26,
+        Refusal::Absent => 27,
+        Refusal::Long => 28,
+        Refusal::Shared => 29,
         Refusal::Visibility(_) => 30,
+        Refusal::NoLine => 31,
+        Refusal::Group => 32,
     }
 }
 
@@ -312,7 +342,13 @@ pub fn item(x: Refusal) -> u64
         Refusal::Record(i) => i,
         Refusal::Form => 0,
         Refusal::Clash => 0,
+        Refusal::Full => 0,
+        Refusal::Absent => 0,
+        Refusal::Long => 0,
+        Refusal::Shared => 0,
         Refusal::Visibility(i) => i.0,
+        Refusal::NoLine => 0,
+        Refusal::Group => 0,
     }
 }
 

@@ -29,6 +29,10 @@ sectionHeaderAt f base file =
       vaddr = record { 0 = fieldIn (sectionLayout f .vaddr) base file };
       size = fieldIn (sectionLayout f .size) base file;
       scnptr = record { 0 = fieldIn (sectionLayout f .scnptr) base file };
+      relptr = record { 0 = fieldIn (sectionLayout f .relptr) base file };
+      lnnoptr = record { 0 = fieldIn (sectionLayout f .lnnoptr) base file };
+      nreloc = fieldIn (sectionLayout f .nreloc) base file;
+      nlnno = fieldIn (sectionLayout f .nlnno) base file;
       flags = fieldIn (sectionLayout f .flags) base file;
     }
 
@@ -53,6 +57,10 @@ sectionOf k h =
       vaddr = h .vaddr;
       size = h .size;
       scnptr = h .scnptr;
+      relptr = h .relptr;
+      lnnoptr = h .lnnoptr;
+      nreloc = h .nreloc;
+      nlnno = h .nlnno;
       raw = hasRawData k h;
     }
 

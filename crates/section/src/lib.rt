@@ -20,6 +20,10 @@ pub struct SectionHeader {
     pub vaddr: VirtualAddress,
     pub size: u64,
     pub scnptr: FileOffset,
+    pub relptr: FileOffset,
+    pub lnnoptr: FileOffset,
+    pub nreloc: u64,
+    pub nlnno: u64,
     pub flags: u64,
 }
 
@@ -30,6 +34,11 @@ pub struct Section {
     pub vaddr: VirtualAddress,
     pub size: u64,
     pub scnptr: FileOffset,
+    // relocation and line table, offset and count as the header has them: overflow headers are not looked up here
+    pub relptr: FileOffset,
+    pub lnnoptr: FileOffset,
+    pub nreloc: u64,
+    pub nlnno: u64,
     // whether raw data exists
     pub raw: bool,
 }
@@ -48,12 +57,20 @@ pub fn read_section_header(file: &[u8], f: Format, base: usize) -> SectionHeader
     let vaddr = l.vaddr;
     let size = l.size;
     let scnptr = l.scnptr;
+    let relptr = l.relptr;
+    let lnnoptr = l.lnnoptr;
+    let nreloc = l.nreloc;
+    let nlnno = l.nlnno;
     let flags = l.flags;
     SectionHeader {
         paddr: VirtualAddress(word::read_field(file, base, paddr)),
         vaddr: VirtualAddress(word::read_field(file, base, vaddr)),
         size: word::read_field(file, base, size),
         scnptr: FileOffset(word::read_field(file, base, scnptr)),
+        relptr: FileOffset(word::read_field(file, base, relptr)),
+        lnnoptr: FileOffset(word::read_field(file, base, lnnoptr)),
+        nreloc: word::read_field(file, base, nreloc),
+        nlnno: word::read_field(file, base, nlnno),
         flags: word::read_field(file, base, flags),
     }
 }
@@ -101,12 +118,18 @@ fn section_of(k: SectionKind, h: SectionHeader) -> Section
     let paddr = h.paddr;
     let vaddr = h.vaddr;
     let scnptr = h.scnptr;
+    let relptr = h.relptr;
+    let lnnoptr = h.lnnoptr;
     Section {
         kind: k,
         paddr,
         vaddr,
         size: h.size,
         scnptr,
+        relptr,
+        lnnoptr,
+        nreloc: h.nreloc,
+        nlnno: h.nlnno,
         raw: has_data(k, h),
     }
 }

@@ -1,6 +1,6 @@
 //! One operation, run by both implementations.
 
-use crate::{images, places, read, records};
+use crate::{images, later, places, read, records};
 use reference::generate::Op;
 use reference::Refusal;
 use std::fmt::Debug;
@@ -61,6 +61,7 @@ fn run_both(file: &[u8], op: &Op) -> Agreement {
             text,
             data,
         } => records::read(file, plan, records, (text, data)),
+        _ if later::is_later(op) => later::alone(file, op),
         _ => read::read(file, op),
     }
 }

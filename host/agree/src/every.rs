@@ -2,7 +2,7 @@
 
 use reference::generate::rng::Rng;
 use reference::generate::Op;
-use reference::{Call, Plan};
+use reference::{Call, ObjectCall, Plan, RowKey, TableCall};
 
 /// Of tables of more rows than this only the end is looked up one by one: each look-up judges the whole module.
 const MANY: u64 = 300;
@@ -48,10 +48,106 @@ pub fn every(file: &[u8], rng: &mut Rng) -> Vec<Op> {
         ops.extend([Op::ImportPath(n), Op::ImportBase(n), Op::ImportMember(n)]);
     }
     ops.extend(images(file, rng));
+    ops.extend(objects(file, rng));
+    ops.extend(lines(file));
+    ops.push(table(file, rng));
+    ops.extend(salvages(file, rng));
     ops
 }
 
-/// A build, a move, a list with refused calls, the sheet of a plan, and S-records of two.
+/// A copy with a report of any length, one that just fits, one that is too short, and a copy of another length.
+fn salvages(file: &[u8], rng: &mut Rng) -> [Op; 4] {
+    let fits = 8 * reference::mends(file).map_or(0, |mends| mends.len());
+    let mut salvage = |copy: usize, report: usize| Op::Salvage {
+        copy: rng.bytes(copy),
+        report: rng.bytes(report),
+    };
+    [
+        salvage(file.len(), fits + 50),
+        salvage(file.len(), fits),
+        salvage(file.len(), fits.saturating_sub(1)),
+        salvage(file.len() + 1, fits),
+    ]
+}
+
+/// Rows for a part of the module's imports, by turns of the two benches, and fills of both.
+fn table(file: &[u8], rng: &mut Rng) -> Op {
+    let symbols = reference::loader_symbols(file).unwrap_or_default();
+    let mut calls = Vec::new();
+    for (i, symbol) in symbols.iter().take(MANY as usize).enumerate() {
+        let row = RowKey {
+            bench: 1 + i as u64 % 2,
+            file_id: symbol.file_id,
+            name: file[symbol.name.clone()].to_vec(),
+        };
+        match i % 5 {
+            0 => calls.push(TableCall::LookUp(row)),
+            1 => calls.extend([TableCall::Add(row.clone(), 1), TableCall::Remove(row)]),
+            _ => calls.push(TableCall::Add(row, rng.next())),
+        }
+    }
+    for bench in [1, 2, 3] {
+        let list = vec![7; symbols.len()];
+        calls.push(TableCall::Fill { bench, list });
+    }
+    Op::Table(calls)
+}
+
+/// Lines of every section, at its ends and around them, and of sections that are not there.
+fn lines(file: &[u8]) -> Vec<Op> {
+    let sections = reference::open(file).map_or(Vec::new(), |o| o.sections);
+    let ends = |n: u64| {
+        let place = usize::try_from(n).ok().and_then(|n| n.checked_sub(1));
+        let section = place.and_then(|i| sections.get(i));
+        let (start, size) = section.map_or((0, 0), |s| (s.paddr, s.size));
+        let end = start.wrapping_add(size);
+        [
+            start,
+            start.wrapping_sub(1),
+            start.wrapping_add(size / 2),
+            end,
+            u64::MAX,
+        ]
+    };
+    let numbers = places(1, sections.len() as u64, false).into_iter();
+    numbers
+        .flat_map(|section| ends(section).map(|address| Op::FindLine { section, address }))
+        .collect()
+}
+
+/// The file as an object file: built, and moved along a chain, for addresses near the recorded ones, so that branches stay
+/// in range, and for others.
+fn objects(file: &[u8], rng: &mut Rng) -> Vec<Op> {
+    let sections = reference::open(file).map_or(Vec::new(), |o| o.sections);
+    let length = reference::object(file).map_or(8, |o| o.length as usize);
+    let recorded: Vec<u64> = sections.iter().map(|s| s.paddr).collect();
+    let near = recorded.iter().map(|a| a.saturating_add(0x40)).collect();
+    let far: Vec<u64> = recorded.iter().map(|_| rng.below(1 << 31)).collect();
+    let [p, q, r] = [recorded, near, far];
+    let buffer = rng.bytes(length);
+    let calls = vec![
+        ObjectCall::Move(q.clone(), p.clone()),
+        ObjectCall::Build(p.clone()),
+        ObjectCall::Move(p.clone(), q.clone()),
+        ObjectCall::Move(q.clone(), r.clone()),
+        ObjectCall::Move(q, p.clone()),
+    ];
+    vec![
+        Op::Object,
+        Op::ObjectBuild {
+            list: r.clone(),
+            buffer: buffer.clone(),
+        },
+        Op::ObjectMove {
+            from: p,
+            to: r,
+            buffer: buffer.clone(),
+        },
+        Op::ObjectCalls { calls, buffer },
+    ]
+}
+
+/// A build, a move, a list with refused calls, the sheet of a plan, and S-records and files of two.
 fn images(file: &[u8], rng: &mut Rng) -> Vec<Op> {
     let (sizes, [p, q, r]) = plans(file, rng);
     let (text, data) = (rng.bytes(sizes.0), rng.bytes(sizes.1));
@@ -92,6 +188,10 @@ fn images(file: &[u8], rng: &mut Rng) -> Vec<Op> {
             .into_iter()
             .flat_map(|plan| records(file, plan, &text, &data)),
     );
+    ops.extend([p, q].map(|plan| Op::WriteModule {
+        plan,
+        out: rng.bytes(file.len()),
+    }));
     ops
 }
 

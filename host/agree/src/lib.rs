@@ -5,6 +5,7 @@
 mod compare;
 mod every;
 mod images;
+mod later;
 mod lent;
 mod lister;
 mod places;

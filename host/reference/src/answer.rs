@@ -86,7 +86,52 @@ pub fn arguments(op: &Op) -> String {
         } => {
             format!("{text:x},{data:x},{} {}", bracketed(list), hex(sheet))
         }
+        Op::ObjectBuild { .. } | Op::ObjectMove { .. } | Op::ObjectCalls { .. } => {
+            object_arguments(op)
+        }
+        Op::FindLine { section, address } => format!("{section} {address:x}"),
+        Op::WriteModule { plan, out } => format!("{} {}", plan_text(plan), hex(out)),
+        Op::Salvage { copy, report } => format!("copy={} report={}", hex(copy), hex(report)),
+        Op::Table(calls) => {
+            let all: Vec<String> = calls.iter().map(table_call_text).collect();
+            all.join(" / ")
+        }
         _ => record_arguments(op),
+    }
+}
+
+fn object_arguments(op: &Op) -> String {
+    let (calls, buffer) = match object_calls(op) {
+        Some(found) => found,
+        None => return String::new(),
+    };
+    let one = |call: &ObjectCall| match call {
+        ObjectCall::Build(list) => format!("build {}", bracketed(list)),
+        ObjectCall::Move(from, to) => format!("move {} {}", bracketed(from), bracketed(to)),
+    };
+    let all: Vec<String> = calls.iter().map(one).collect();
+    format!("buffer={} {}", hex(buffer), all.join(" / "))
+}
+
+/// The calls of an operation on an object's buffer, and what it holds before them.
+pub fn object_calls(op: &Op) -> Option<(Vec<ObjectCall>, &Vec<u8>)> {
+    match op {
+        Op::ObjectBuild { list, buffer } => Some((vec![ObjectCall::Build(list.clone())], buffer)),
+        Op::ObjectMove { from, to, buffer } => {
+            Some((vec![ObjectCall::Move(from.clone(), to.clone())], buffer))
+        }
+        Op::ObjectCalls { calls, buffer } => Some((calls.clone(), buffer)),
+        _ => None,
+    }
+}
+
+fn table_call_text(call: &TableCall) -> String {
+    let key = |row: &RowKey| format!("{} {} {}", row.bench, row.file_id, hex(&row.name));
+    match call {
+        TableCall::Add(row, address) => format!("add {} {address:x}", key(row)),
+        TableCall::Remove(row) => format!("remove {}", key(row)),
+        TableCall::LookUp(row) => format!("look_up {}", key(row)),
+        TableCall::Fill { bench, list } => format!("fill {bench} {}", bracketed(list)),
     }
 }
 
@@ -143,8 +188,16 @@ fn section_text(section: &Section) -> String {
         None => "none".to_string(),
     };
     format!(
-        "{:x} {:x} {} {} {:x} {raw}",
-        section.paddr, section.vaddr, section.size, section.scnptr, section.flags
+        "{:x} {:x} {} {} {:x} {raw} relocations {}+{} lines {}+{}",
+        section.paddr,
+        section.vaddr,
+        section.size,
+        section.scnptr,
+        section.flags,
+        section.relptr,
+        section.nreloc,
+        section.lnnoptr,
+        section.nlnno
     )
 }
 
@@ -270,6 +323,31 @@ pub fn run(file: &[u8], op: &Op) -> Answer {
         Op::RecordsLength(_) | Op::WriteRecords { .. } | Op::ReadRecords { .. } => {
             records_answer(file, op)
         }
+        Op::Object => answer(object(file).map(|found| object_text(&found)), ""),
+        Op::ObjectBuild { .. } | Op::ObjectMove { .. } | Op::ObjectCalls { .. } => {
+            placed_answer(file, op)
+        }
+        Op::FindLine { section, address } => answer(
+            find_line(file, *section, *address).map(|found| line_text(&found)),
+            "",
+        ),
+        Op::Table(calls) => table_answer(file, calls),
+        Op::Salvage { copy, report } => {
+            let (mut copy, mut report) = (copy.clone(), report.clone());
+            let result = salvage(file, &mut copy, &mut report);
+            answer(
+                result.map(|count| format!("{count} changes")),
+                &images_text(&copy, &report),
+            )
+        }
+        Op::WriteModule { plan, out } => {
+            let mut out = out.clone();
+            let result = write_module(file, plan, &mut out);
+            answer(
+                result.map(|()| "written".to_string()),
+                &format!(" | {}", hex(&out)),
+            )
+        }
         Op::List => {
             let text = list_headers(file);
             Answer {
@@ -382,6 +460,88 @@ fn image_answer(file: &[u8], op: &Op) -> Answer {
         text: parts.join(" / "),
         refusals,
     }
+}
+
+fn object_text(object: &Object) -> String {
+    let placed = object.placed.iter();
+    let starts: Vec<String> = placed
+        .map(|p| format!("{}@{}", p.number, p.start))
+        .collect();
+    let entries: Vec<String> = object.entries.iter().map(object_entry_text).collect();
+    hex_or_sum(&format!(
+        "bits {} sections {} length {} entries {}",
+        object.summary.bits,
+        starts.join(" "),
+        object.length,
+        entries.join("; ")
+    ))
+}
+
+fn object_entry_text(entry: &ObjectEntry) -> String {
+    format!(
+        "{:x} {} {:02x}{:02x} {:?} {} section {} with {} at {}",
+        entry.address,
+        entry.symbol,
+        entry.size,
+        entry.kind,
+        entry.change,
+        entry.width,
+        entry.section,
+        entry.moves_with,
+        entry.place
+    )
+}
+
+/// A list answers for each call, with the buffer after it.
+fn placed_answer(file: &[u8], op: &Op) -> Answer {
+    let (calls, buffer) = object_calls(op).expect("calls on an object's buffer");
+    let mut buffer = buffer.clone();
+    let mut parts = Vec::new();
+    let mut refusals = Vec::new();
+    for call in &calls {
+        let result = run_object_call(file, call, &mut buffer);
+        let one = answer(
+            result.map(|()| "placed".to_string()),
+            &format!(" | {}", hex(&buffer)),
+        );
+        parts.push(one.text);
+        refusals.extend(one.refusals);
+    }
+    Answer {
+        text: parts.join(" / "),
+        refusals,
+    }
+}
+
+/// One answer for each call on a table that starts empty.
+fn table_answer(file: &[u8], calls: &[TableCall]) -> Answer {
+    let mut table = AddressTable::default();
+    let mut parts = Vec::new();
+    let mut refusals = Vec::new();
+    for call in calls {
+        let found = run_table_call(&mut table, file, call);
+        refusals.extend(found.refusal());
+        parts.push(match found {
+            TableAnswer::Done => "done".to_string(),
+            TableAnswer::Address(address) => format!("address {address:x}"),
+            TableAnswer::Refused(refusal) => refusal_text(&refusal),
+            TableAnswer::Filled(result, list) => {
+                let word = result.map_or_else(|r| refusal_text(&r), |()| "filled".to_string());
+                format!("{word} | {}", list_text(&list))
+            }
+        });
+    }
+    Answer {
+        text: parts.join(" / "),
+        refusals,
+    }
+}
+
+fn line_text(found: &FoundLine) -> String {
+    format!(
+        "entry {} address {:x} line {} symbol {}",
+        found.entry, found.address, found.line, found.symbol
+    )
 }
 
 fn sheet_answer(op: &Op) -> Answer {

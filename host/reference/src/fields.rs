@@ -10,6 +10,8 @@ const INSIDE: u8 = 1;
 pub(crate) enum Sort {
     Narrow = 2,
     Wide = 3,
+    /// The word of a branch.
+    Branch = 4,
 }
 
 impl Sort {
@@ -21,9 +23,9 @@ impl Sort {
         }
     }
 
-    fn length(self) -> usize {
+    pub(crate) fn length(self) -> usize {
         match self {
-            Sort::Narrow => 4,
+            Sort::Narrow | Sort::Branch => 4,
             Sort::Wide => 8,
         }
     }
@@ -40,6 +42,12 @@ impl Fields {
         Fields {
             bytes: vec![FREE; size as usize],
         }
+    }
+
+    /// The sort of the field that starts here.
+    pub(crate) fn starting(&self, at: usize) -> Option<Sort> {
+        let sorts = [Sort::Narrow, Sort::Wide, Sort::Branch];
+        sorts.into_iter().find(|&sort| self.bytes[at] == sort as u8)
     }
 
     /// Adds a field inside the section; false where it meets an earlier one that

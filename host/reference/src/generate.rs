@@ -1,21 +1,26 @@
 //! Test cases from a seed: a file and operations on it. The same seed gives
 //! the same case.
 
+pub mod benches;
 mod changed;
 pub mod damage;
 pub mod debug;
 mod edges;
+pub mod lines;
 pub mod make;
+pub mod objects;
 pub mod offsets;
 mod operations;
 pub mod plans;
 pub mod records;
+pub mod rewrites;
 pub mod rng;
+pub mod salvages;
 pub mod sizes;
 pub mod visibility;
 
-use crate::{Call, Plan, Refusal};
-use damage::{count, symbols_count, Hurt};
+use crate::{Call, ObjectCall, Plan, Refusal, TableCall};
+use damage::{count, lines_count, symbols_count, Hurt};
 use make::{Made, Wish};
 use rng::Rng;
 use std::ops::Range;
@@ -85,6 +90,36 @@ pub enum Op {
         text: Vec<u8>,
         data: Vec<u8>,
     },
+    /// An object file's sections and entries.
+    Object,
+    ObjectBuild {
+        list: Vec<u64>,
+        buffer: Vec<u8>,
+    },
+    ObjectMove {
+        from: Vec<u64>,
+        to: Vec<u64>,
+        buffer: Vec<u8>,
+    },
+    /// A list on one buffer.
+    ObjectCalls {
+        calls: Vec<ObjectCall>,
+        buffer: Vec<u8>,
+    },
+    FindLine {
+        section: u64,
+        address: u64,
+    },
+    /// A list of calls on an address table that starts empty; fills take the file.
+    Table(Vec<TableCall>),
+    WriteModule {
+        plan: Plan,
+        out: Vec<u8>,
+    },
+    Salvage {
+        copy: Vec<u8>,
+        report: Vec<u8>,
+    },
 }
 
 impl Op {
@@ -117,6 +152,14 @@ impl Op {
             Op::RecordsLength(_) => "records_length",
             Op::WriteRecords { .. } => "write_records",
             Op::ReadRecords { .. } => "read_records",
+            Op::Object => "object",
+            Op::ObjectBuild { .. } => "object_build",
+            Op::ObjectMove { .. } => "object_move",
+            Op::ObjectCalls { .. } => "object_calls",
+            Op::FindLine { .. } => "find_line",
+            Op::Table(_) => "table",
+            Op::WriteModule { .. } => "write_module",
+            Op::Salvage { .. } => "salvage",
         }
     }
 }
@@ -140,15 +183,23 @@ pub struct Case {
 }
 
 /// The case of a seed. Every eighth is aimed at request 2, another eighth at
-/// requests 1, 9 and 4, another one at request 10; what belongs to a request is
-/// drawn by itself, so that the other cases stay as they are.
+/// requests 1, 9 and 4, another one at requests 10, 5 and 7, and another one
+/// at requests 6, 8 and 12; what belongs to a request is drawn by itself, so that the
+/// other cases stay as they are.
 pub fn case(seed: u64) -> Case {
     let rng = &mut Rng::new(seed);
     let later = &mut Rng::new(!seed);
     let drawn = match seed % 8 {
         7 => records_file(later),
         3 => symbols_file(later),
-        5 => in_turn(later, seed / 8, symbols_count()..count(), &[sizes::EDGES]),
+        5 => {
+            let edges = [sizes::EDGES, objects::EDGES, lines::EDGES];
+            in_turn(later, seed / 8, symbols_count()..lines_count(), &edges)
+        }
+        1 => {
+            let edges = [benches::EDGES, rewrites::EDGES, salvages::EDGES];
+            in_turn(later, seed / 8, lines_count()..count(), &edges)
+        }
         _ => any_file(rng),
     };
     let mut ops = operations::some_ops(rng, &drawn.made);
@@ -161,6 +212,11 @@ pub fn case(seed: u64) -> Case {
     }
     ops.extend(records::some_op(later, &drawn.made));
     ops.extend(sizes::some_op(later));
+    ops.extend(objects::some_op(later, &drawn.made));
+    ops.extend(lines::some_op(later, &drawn.made));
+    ops.extend(benches::some_op(later, &drawn.made));
+    ops.extend(rewrites::some_op(later, &drawn.made));
+    ops.extend(salvages::some_op(later, &drawn.made));
     Case {
         seed,
         label: drawn.label,
@@ -263,15 +319,29 @@ fn symbols_file(rng: &mut Rng) -> Drawn {
 /// file didn't suit.
 pub type Edge = (&'static str, fn(&mut Rng) -> Option<(Made, Vec<Op>)>);
 
-/// One of these damages and edges, each in its turn.
+/// One of these damages and edges, each in its turn: in one round in XCOFF32, in the
+/// next one in XCOFF64, where it has both.
 fn in_turn(rng: &mut Rng, turn: u64, damages: Range<usize>, edges: &[&[Edge]]) -> Drawn {
     let edges = edges.concat();
-    let which = (turn % (damages.len() + edges.len()) as u64) as usize;
-    if which < damages.len() {
-        let (name, hurt) = damage::single(rng, damages.start + which);
-        return Drawn::aimed(format!("aimed: {name}"), hurt);
+    let count = (damages.len() + edges.len()) as u64;
+    let which = (turn % count) as usize;
+    let bits = if turn / count % 2 == 0 { 32 } else { 64 };
+    for _ in 0..20 {
+        let drawn = match edges.get(which.wrapping_sub(damages.len())) {
+            Some(edge) => at_edge(rng, edge),
+            None => {
+                let (name, hurt) = damage::single(rng, damages.start + which);
+                Drawn::aimed(format!("aimed: {name}"), hurt)
+            }
+        };
+        if drawn.made.bits == bits {
+            return drawn;
+        }
     }
-    let (label, make) = edges[which - damages.len()];
+    in_turn(rng, turn + count, damages, &[&edges])
+}
+
+fn at_edge(rng: &mut Rng, (label, make): &Edge) -> Drawn {
     loop {
         if let Some((made, more)) = make(rng) {
             return Drawn {

@@ -35,11 +35,17 @@ pub fn build(
 ) -> Result<Reached, Refusal> {
     let loaded = load(file)?;
     judge_build(&loaded, plan, text.len(), data.len())?;
-    let (raw_text, raw_data) = raw_images(file, &loaded);
-    text.copy_from_slice(&raw_text);
-    data.copy_from_slice(&raw_data);
-    apply_entries(&loaded, &displacements(&loaded, plan), text, data);
+    let (built_text, built_data) = built_images(file, &loaded, plan);
+    text.copy_from_slice(&built_text);
+    data.copy_from_slice(&built_data);
     Ok(reached(&loaded, plan))
+}
+
+/// The images for a plan that is judged.
+pub(crate) fn built_images(file: &[u8], loaded: &Loaded, plan: &Plan) -> (Vec<u8>, Vec<u8>) {
+    let (mut text, mut data) = raw_images(file, loaded);
+    apply_entries(loaded, &displacements(loaded, plan), &mut text, &mut data);
+    (text, data)
 }
 
 /// Moves the images from one plan to another, taking the buffers as they are.
@@ -164,7 +170,7 @@ fn raw_images(file: &[u8], loaded: &Loaded) -> (Vec<u8>, Vec<u8>) {
 }
 
 /// The displacement of every symbol, as relocation entries number them.
-fn displacements(loaded: &Loaded, plan: &Plan) -> Vec<i128> {
+pub(crate) fn displacements(loaded: &Loaded, plan: &Plan) -> Vec<i128> {
     let module = &loaded.module;
     let text = i128::from(plan.text) - i128::from(module.text_address);
     let data = i128::from(plan.data) - i128::from(module.data_address);

@@ -3,32 +3,47 @@
 //!
 //! Each module follows one section of document 01, in its order:
 //! `opening`, `symbols`, `module`, `images` (plans, images, moves, the book),
-//! `sheet`, `lister`; `records` is request 2. `generate` makes test cases,
-//! `answer` runs one operation of a case and writes its answer down, `reached`
-//! counts the refusals by class.
+//! `sheet`, `lister`; `records` is request 2, `object` request 5, `lines` request 7,
+//! `address_table` request 6, `rewrite` request 8, `salvage` request 12. `generate`
+//! makes test cases, `answer` runs one operation of a case and writes its
+//! answer down, `reached` counts the refusals by class.
 #![forbid(unsafe_code)]
 
+pub mod address_table;
 pub mod answer;
 pub mod bytes;
 mod fields;
 pub mod generate;
 pub mod images;
+pub mod lines;
 pub mod lister;
 pub mod module;
+pub mod object;
 pub mod opening;
 pub mod reached;
 pub mod records;
+pub mod rewrite;
+pub mod salvage;
+pub mod section_table;
 pub mod sheet;
 pub mod symbols;
 
+pub use address_table::{run_table_call, AddressTable, RowKey, TableAnswer, TableCall};
 pub use images::{book, build, move_images, Call, Plan, Reached};
+pub use lines::{find_line, FoundLine};
 pub use lister::list_headers;
 pub use module::{
     import_base, import_ids, import_member, import_path, loader_symbol, loader_symbol_name,
     loader_symbols, module, relocations, LoaderSymbol, Module, Relocation,
 };
+pub use object::{
+    object, object_book, object_build, object_move, run_object_call, Change, Object, ObjectCall,
+    ObjectEntry,
+};
 pub use opening::{open, section, section_name, Section, Summary};
 pub use records::{read_records, records_length, write_records};
+pub use rewrite::write_module;
+pub use salvage::{mends, salvage, Mend};
 pub use sheet::{read_sheet, sheet_count, write_sheet, Form};
 pub use symbols::{
     csect, name_fault, symbol, symbol_name, walk, walked, Csect, NameFault, Symbol, Walk,
@@ -67,17 +82,28 @@ pub const SHEET: u64 = 21;
 pub const RECORD: u64 = 22;
 pub const FORM: u64 = 23;
 pub const CLASH: u64 = 24;
+pub const RANGE: u64 = 25;
+pub const FULL: u64 = 26;
+pub const ABSENT: u64 = 27;
+pub const LONG: u64 = 28;
+pub const SHARED: u64 = 29;
 pub const VISIBILITY: u64 = 30;
+pub const NOLINE: u64 = 31;
+pub const GROUP: u64 = 32;
 
 /// The word of a refusal number.
 pub fn word(number: u64) -> &'static str {
-    if number == VISIBILITY {
-        return "VISIBILITY";
+    match number {
+        VISIBILITY => return "VISIBILITY",
+        NOLINE => return "NOLINE",
+        GROUP => return "GROUP",
+        _ => {}
     }
-    const WORDS: [&str; 25] = [
+    const WORDS: [&str; 30] = [
         "none", "SHORT", "MAGIC", "LIMIT", "KIND", "BOUNDS", "ADDRESS", "STRINGS", "INDEX", "AUX",
         "NAME", "SECTION", "CSECT", "MODULE", "THREAD", "LOADER", "LSYM", "LREL", "OVERLAP",
-        "PLAN", "ROOM", "SHEET", "RECORD", "FORM", "CLASH",
+        "PLAN", "ROOM", "SHEET", "RECORD", "FORM", "CLASH", "RANGE", "FULL", "ABSENT", "LONG",
+        "SHARED",
     ];
     match WORDS.get(number as usize) {
         Some(word) => word,
@@ -94,6 +120,8 @@ pub const IMAGE_LIMIT: u64 = 16_777_216;
 /// Addresses of an old sheet; a new one holds as many as there may be loader
 /// symbols.
 pub const OLD_SHEET_LIMIT: u64 = 4_096;
+/// Rows of the address table.
+pub const TABLE_ROWS: usize = 512;
 
 /// Short form for giving a refusal back whose item names no place in the file.
 pub(crate) fn refuse<T>(number: u64, item: u64) -> Result<T, Refusal> {

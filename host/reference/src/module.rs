@@ -85,8 +85,8 @@ pub(crate) struct Loaded {
     pub data: Range<usize>,
     pub symbols: Vec<LoaderSymbol>,
     pub entries: Vec<Relocation>,
-    /// The import id table in the file.
-    ids: Range<usize>,
+    pub summary: Summary,
+    pub tables: Tables,
 }
 
 /// The module's own facts.
@@ -150,8 +150,8 @@ pub fn import_ids(file: &[u8]) -> Result<Vec<[Range<usize>; 3]>, Refusal> {
 /// The zero-ended strings of the id table, without their zeros.
 fn id_strings(file: &[u8], loaded: &Loaded) -> Vec<Range<usize>> {
     let mut strings = Vec::new();
-    let mut start = loaded.ids.start;
-    for at in loaded.ids.clone() {
+    let mut start = loaded.tables.ids.start;
+    for at in loaded.tables.ids.clone() {
         if file[at] == 0 {
             strings.push(start..at);
             start = at + 1;
@@ -181,7 +181,8 @@ pub(crate) fn load(file: &[u8]) -> Result<Loaded, Refusal> {
         data: raw_of(parts.data.section),
         symbols,
         entries,
-        ids: tables.ids,
+        tables,
+        summary,
     })
 }
 
@@ -242,18 +243,24 @@ struct AuxHeader {
     bss: u64,
 }
 
+/// Where it has addresses, in XCOFF32 and in XCOFF64.
+pub(crate) const AUX_ENTRY: (usize, usize) = (16, 80);
+pub(crate) const AUX_TEXT_START: (usize, usize) = (20, 8);
+pub(crate) const AUX_DATA_START: (usize, usize) = (24, 16);
+pub(crate) const AUX_TOC: (usize, usize) = (28, 24);
+
 fn read_aux_header(file: &[u8], bits: u64) -> AuxHeader {
     let aux = file_header(bits);
-    let word = |narrow, wide| number(file, aux + by(bits, narrow, wide), by(bits, 4, 8));
+    let word = |(narrow, wide)| number(file, aux + by(bits, narrow, wide), by(bits, 4, 8));
     let section = |at| number(file, aux + at, 2);
     AuxHeader {
-        text_size: word(4, 56),
-        data_size: word(8, 64),
-        bss_size: word(12, 72),
-        entry: word(16, 80),
-        text_start: word(20, 8),
-        data_start: word(24, 16),
-        toc: word(28, 24),
+        text_size: word((4, 56)),
+        data_size: word((8, 64)),
+        bss_size: word((12, 72)),
+        entry: word(AUX_ENTRY),
+        text_start: word(AUX_TEXT_START),
+        data_start: word(AUX_DATA_START),
+        toc: word(AUX_TOC),
         entry_section: section(32),
         text: section(34),
         data: section(36),
@@ -369,15 +376,17 @@ fn raw_of(section: &Section) -> Range<usize> {
     }
 }
 
-/// The loader section's tables, as parts of the file.
-struct Tables {
+/// The loader section and its tables, as parts of the file.
+#[derive(Clone, Debug)]
+pub(crate) struct Tables {
+    pub section: Range<usize>,
     symbol_count: u64,
     relocation_count: u64,
     id_count: u64,
-    symbols: Range<usize>,
-    relocations: Range<usize>,
-    ids: Range<usize>,
-    strings: Range<usize>,
+    pub symbols: Range<usize>,
+    pub relocations: Range<usize>,
+    pub ids: Range<usize>,
+    pub strings: Range<usize>,
     /// Where the string table has zeros, in order.
     zeros: Vec<usize>,
 }
@@ -394,6 +403,16 @@ struct LoaderHeader {
     string_offset: u64,
     symbol_offset: u64,
     relocation_offset: u64,
+}
+
+/// Length of the loader section's header.
+pub(crate) fn loader_header_length(bits: u64) -> usize {
+    by(bits, 32, 56)
+}
+
+/// Length of a relocation entry.
+pub(crate) fn relocation_length(bits: u64) -> usize {
+    by(bits, 12, 16)
 }
 
 /// The header at the start of the loader section.
@@ -421,7 +440,7 @@ fn read_loader_header(file: &[u8], bits: u64, at: usize) -> LoaderHeader {
 /// LOADER, and LIMIT 2 and 3, all at the start of the loader section; without raw
 /// data its pointer is 0.
 fn read_tables(file: &[u8], bits: u64, loader: &Range<usize>) -> Result<Tables, Refusal> {
-    if loader.len() < by(bits, 32, 56) {
+    if loader.len() < loader_header_length(bits) {
         return refuse_at(LOADER, 0, loader.start);
     }
     let header = read_loader_header(file, bits, loader.start);
@@ -436,7 +455,7 @@ fn read_tables(file: &[u8], bits: u64, loader: &Range<usize>) -> Result<Tables, 
     }
     let symbols_length = 24 * header.symbol_count;
     let symbols = table(loader, header.symbol_offset, symbols_length, 2)?;
-    let relocations_length = by(bits, 12, 16) as u64 * header.relocation_count;
+    let relocations_length = relocation_length(bits) as u64 * header.relocation_count;
     let relocations = table(loader, header.relocation_offset, relocations_length, 3)?;
     let ids = table(loader, header.id_offset, header.id_length, 4)?;
     let zeros = file[ids.clone()].iter().filter(|&&byte| byte == 0).count();
@@ -446,6 +465,7 @@ fn read_tables(file: &[u8], bits: u64, loader: &Range<usize>) -> Result<Tables, 
     let strings = table(loader, header.string_offset, header.string_length, 5)?;
     let zeros = strings.clone().filter(|&at| file[at] == 0).collect();
     Ok(Tables {
+        section: loader.clone(),
         symbol_count: header.symbol_count,
         relocation_count: header.relocation_count,
         id_count: header.id_count,
@@ -570,7 +590,7 @@ fn read_relocations(
     let mut text = Fields::new(parts.text.section.size);
     let mut data = Fields::new(parts.data.section.size);
     for i in 0..tables.relocation_count {
-        let at = tables.relocations.start + by(bits, 12, 16) * i as usize;
+        let at = tables.relocations.start + relocation_length(bits) * i as usize;
         let entry = read_relocation(file, bits, at);
         if entry.symbol == 0xFFFF_FFFF || entry.symbol == 0xFFFF_FFFE {
             return refuse_at(THREAD, i, at);

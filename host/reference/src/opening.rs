@@ -56,6 +56,11 @@ pub struct Section {
     pub vaddr: u64,
     pub size: u64,
     pub scnptr: u64,
+    /// The relocation and the line table: offset and count as the header has them.
+    pub relptr: u64,
+    pub nreloc: u64,
+    pub lnnoptr: u64,
+    pub nlnno: u64,
     /// The kind's flag alone; all ones where the section is deleted.
     pub flags: u64,
     /// All four bytes of the flags, dwarf subtypes included.
@@ -92,6 +97,30 @@ pub(crate) fn section_header(bits: u64) -> usize {
 pub(crate) fn header_at(summary: &Summary, n: u64) -> usize {
     let headers = file_header(summary.bits) + summary.opthdr as usize;
     headers + (n as usize - 1) * section_header(summary.bits)
+}
+
+/// Where the header area ends.
+pub(crate) fn headers_end(summary: &Summary) -> usize {
+    header_at(summary, summary.sections.len() as u64 + 1)
+}
+
+/// Where the symbol table lies; empty without symbols.
+pub(crate) fn symbol_bytes(summary: &Summary) -> Range<usize> {
+    if summary.symbols == 0 {
+        return 0..0;
+    }
+    let start = summary.symptr as usize;
+    start..start + 18 * summary.symbols as usize
+}
+
+/// The bytes of the string table, its four length bytes included, also where they are
+/// 0; none where the file ends before them.
+pub(crate) fn string_bytes(file: &[u8], summary: &Summary) -> Range<usize> {
+    let start = symbol_bytes(summary).end;
+    if summary.symbols == 0 || start == file.len() {
+        return 0..0;
+    }
+    start..start + summary.strings.len().max(4)
 }
 
 /// Opens a file.
@@ -155,6 +184,10 @@ fn read_section(file: &[u8], bits: u64, n: u64, at: usize) -> Result<Section, Re
         vaddr: number(file, at + by(bits, 12, 16), word),
         size: number(file, at + by(bits, 16, 24), word),
         scnptr: number(file, at + by(bits, 20, 32), word),
+        relptr: number(file, at + by(bits, 24, 40), word),
+        lnnoptr: number(file, at + by(bits, 28, 48), word),
+        nreloc: number(file, at + by(bits, 32, 56), by(bits, 2, 4)),
+        nlnno: number(file, at + by(bits, 34, 60), by(bits, 2, 4)),
         flags: whole_flags,
         whole_flags,
         raw: None,

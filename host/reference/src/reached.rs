@@ -4,12 +4,21 @@
 
 mod edges;
 
+use crate::answer::object_calls;
 use crate::generate::Op;
-use crate::opening::{TBSS, TDATA};
+use crate::lines::line_table_fault;
+use crate::object::{entry_fault, range_fault, table_fault, EntryFault, RangeFault};
+use crate::opening::{BSS, DATA, TBSS, TDATA, TEXT};
 use crate::records::{bad_line, Fault};
+use crate::rewrite::shared_parts;
+use crate::salvage::{shared_with, SharedWith};
+use crate::section_table::TableFault;
 use crate::sheet::Form;
 use crate::symbols::{ld_container, name_fault, NameFault};
-use crate::{module, open, symbol, word, Refusal, ROOM, VISIBILITY};
+use crate::{
+    find_line, module, open, section, symbol, word, Refusal, AUX, BOUNDS, GROUP, INDEX, LREL,
+    MODULE, NAME, NOLINE, OVERLAP, PLAN, RANGE, ROOM, SECTION, VISIBILITY,
+};
 use std::collections::BTreeMap;
 
 /// Operations that reach the same rules, in the order of 01.
@@ -26,12 +35,17 @@ pub enum Group {
     List,
     Sheet,
     Records,
+    Objects,
+    Lines,
+    Benches,
+    Rewrite,
+    Salvage,
 }
 
 use Group::*;
 
 /// Each group with its word, in the order of the table's columns.
-pub const GROUPS: [(Group, &str); 11] = [
+pub const GROUPS: [(Group, &str); 16] = [
     (Open, "open"),
     (Section, "section"),
     (Symbol, "symbol"),
@@ -43,14 +57,26 @@ pub const GROUPS: [(Group, &str); 11] = [
     (List, "list"),
     (Sheet, "sheet"),
     (Records, "records"),
+    (Objects, "object"),
+    (Lines, "line"),
+    (Benches, "table"),
+    (Rewrite, "rewrite"),
+    (Salvage, "salvage"),
 ];
 
 /// Every operation opens the file, but those of sheets.
 const OPENING: &[Group] = &[
-    Open, Section, Symbol, Csect, Module, Lookup, Build, Move, List, Records,
+    Open, Section, Symbol, Csect, Module, Lookup, Build, Move, List, Records, Objects, Lines,
+    Benches, Rewrite, Salvage,
 ];
-const LOADING: &[Group] = &[Module, Lookup, Build, Move, List, Records];
-const PLANNED: &[Group] = &[Build, Move, List, Records];
+const LOADING: &[Group] = &[Module, Lookup, Build, Move, List, Records, Benches, Rewrite];
+/// MODULE 3 is an object's too.
+const RAW_DATA: &[Group] = &[
+    Module, Lookup, Build, Move, List, Records, Objects, Benches, Rewrite,
+];
+const PLANNED: &[Group] = &[Build, Move, List, Records, Rewrite];
+/// Those of them that have two images.
+const IMAGES: &[Group] = &[Build, Move, List, Records];
 
 /// The formats in which a class can be reached. `Neither`: before the format is
 /// known, or without a file.
@@ -120,6 +146,63 @@ pub const CLASSES: &[Class] = &[
     class(0, "new sheet of 70,000", Neither, &[Sheet]),
     class(0, "written sheet of 0", Neither, &[Sheet]),
     class(0, "written sheet of 70,000", Neither, &[Sheet]),
+    class(0, "table ends with the file", Both, &[Objects]),
+    class(0, "empty table at the end", Both, &[Objects]),
+    class(0, "count by overflow", Only32, &[Objects]),
+    class(0, "65,534 entries", Both, &[Objects]),
+    class(0, "65,535 entries", Both, &[Objects]),
+    class(0, "type 0F outside", Both, &[Objects]),
+    class(0, "symbol that stays", Both, &[Objects]),
+    class(0, "both branches on a word", Both, &[Objects]),
+    class(0, "fields of two sections", Both, &[Objects]),
+    class(0, "branch at the top", Both, &[Objects]),
+    class(0, "branch at the bottom", Both, &[Objects]),
+    class(0, "branch, far and back", Both, &[Objects]),
+    class(0, "line at its address", Both, &[Lines]),
+    class(0, "line above its address", Both, &[Lines]),
+    class(0, "first of equal lines", Both, &[Lines]),
+    class(0, "line of a later group", Both, &[Lines]),
+    class(0, "lines up to the end", Both, &[Lines]),
+    class(0, "lines by overflow", Only32, &[Lines]),
+    class(0, "65,534 lines", Both, &[Lines]),
+    class(0, "65,535 lines", Both, &[Lines]),
+    class(0, "asked past 2^32", Only32, &[Lines]),
+    class(0, "512 rows", Neither, &[Benches]),
+    class(0, "replaced in a full table", Neither, &[Benches]),
+    class(0, "added to 511 rows", Neither, &[Benches]),
+    class(0, "a row of each bench", Neither, &[Benches]),
+    class(0, "name of 32 bytes", Neither, &[Benches]),
+    class(0, "names but for a zero", Neither, &[Benches]),
+    class(0, "fill: own row", Both, &[Benches]),
+    class(0, "fill: the other's row", Both, &[Benches]),
+    class(0, "fill: no row", Both, &[Benches]),
+    class(0, "fill: name of none", Both, &[Benches]),
+    class(0, "fill: deferred, a row", Both, &[Benches]),
+    class(0, "fill: past 2^32", Only32, &[Benches]),
+    class(0, "parts side by side", Both, &[Rewrite]),
+    class(0, "loader side by side", Both, &[Rewrite]),
+    class(0, "empty text inside", Both, &[Rewrite]),
+    class(0, "another section over", Both, &[Rewrite]),
+    class(0, "no string table", Both, &[Rewrite]),
+    class(0, "string length of 0", Both, &[Rewrite]),
+    class(0, "no entry, no TOC", Both, &[Rewrite]),
+    class(0, "bss dropped at the top", Both, &[Rewrite]),
+    class(0, "mended AUX", Both, &[Salvage]),
+    class(0, "mended SECTION", Both, &[Salvage]),
+    class(0, "mended NAME", Both, &[Salvage]),
+    class(0, "mended NAME, debug", Both, &[Salvage]),
+    class(0, "mended VISIBILITY", Only32, &[Salvage]),
+    class(0, "three in one entry", Both, &[Salvage]),
+    class(0, "four in one entry", Only32, &[Salvage]),
+    class(0, "auxiliaries cut to 0", Both, &[Salvage]),
+    class(0, "nothing to mend", Both, &[Salvage]),
+    class(0, "no symbols to mend", Both, &[Salvage]),
+    class(0, "report that just fits", Both, &[Salvage]),
+    class(0, "report with a rest", Both, &[Salvage]),
+    class(0, "debug up to symbols", Both, &[Salvage]),
+    class(0, "debug from their end", Both, &[Salvage]),
+    class(0, "empty debug inside", Both, &[Salvage]),
+    class(0, "other section over them", Both, &[Salvage]),
     class(1, "0 under 2 bytes", Neither, OPENING),
     class(1, "0 file header", Both, OPENING),
     class(1, "0 header area", Both, OPENING),
@@ -132,8 +215,11 @@ pub const CLASSES: &[Class] = &[
     class(3, "2 sheet written", Neither, &[Sheet]),
     class(3, "3 relocation entries", Both, LOADING),
     class(3, "4 data image", Both, LOADING),
+    class(3, "5 report", Both, &[Salvage]),
     class(4, "section", Both, OPENING),
     class(5, "section", Both, OPENING),
+    class(5, "section: table", Both, &[Objects, Lines]),
+    class(5, "section: overflow", Only32, &[Objects, Lines]),
     class(5, "0 symbol table", Both, OPENING),
     class(5, "0 string length cut", Both, OPENING),
     class(5, "0 string table", Both, OPENING),
@@ -142,7 +228,9 @@ pub const CLASSES: &[Class] = &[
     class(6, "section: bss below data", Both, LOADING),
     class(7, "0", Both, OPENING),
     class(8, "section", Both, &[Section]),
+    class(8, "text section", Both, &[Lines]),
     class(8, "symbol entry", Both, &[Symbol, Csect]),
+    class(8, "bench", Neither, &[Benches]),
     class(8, "loader symbol", Both, &[Lookup]),
     class(8, "import id", Both, &[Lookup]),
     class(9, "index", Both, &[Symbol, Csect]),
@@ -158,7 +246,7 @@ pub const CLASSES: &[Class] = &[
     class(13, "0", Both, LOADING),
     class(13, "1", Both, LOADING),
     class(13, "2", Both, LOADING),
-    class(13, "3", Both, LOADING),
+    class(13, "3", Both, RAW_DATA),
     class(13, "4", Both, LOADING),
     class(14, "section", Both, LOADING),
     class(14, "entry", Both, LOADING),
@@ -172,17 +260,35 @@ pub const CLASSES: &[Class] = &[
     class(15, "5", Both, LOADING),
     class(16, "index from 3", Both, LOADING),
     class(17, "entry", Both, LOADING),
+    class(17, "entry: type", Both, &[Objects]),
+    class(17, "entry: width", Both, &[Objects]),
+    class(17, "entry: outside", Both, &[Objects]),
+    class(17, "entry: no symbol", Both, &[Objects]),
+    class(17, "entry: symbol's AUX", Both, &[Objects]),
+    class(17, "entry: symbol's SECTION", Both, &[Objects]),
+    class(17, "entry: symbol's NAME", Both, &[Objects]),
+    class(17, "entry: its VISIBILITY", Only32, &[Objects]),
     class(18, "entry", Both, LOADING),
+    class(18, "entry: fields meet", Both, &[Objects]),
+    class(18, "entry: one field", Both, &[Objects]),
     class(19, "0 text", Both, PLANNED),
     class(19, "1 data", Both, PLANNED),
     // Every 64-bit number is an address of XCOFF64.
     class(19, "import from 3", Only32, PLANNED),
-    class(20, "0 text", Both, PLANNED),
+    class(19, "section: text", Both, &[Objects]),
+    class(19, "section: data", Both, &[Objects]),
+    class(19, "section: bss", Both, &[Objects]),
+    class(20, "0 text", Both, IMAGES),
     class(20, "0 sheet", Neither, &[Sheet]),
     class(20, "0 record text", Only32, &[Records]),
-    class(20, "1 data", Both, PLANNED),
+    class(20, "0 buffer", Both, &[Objects]),
+    class(20, "0 output", Both, &[Rewrite]),
+    class(20, "0 copy", Both, &[Salvage]),
+    class(20, "1 data", Both, IMAGES),
     class(20, "2 list of a plan", Both, PLANNED),
+    class(20, "2 list of a fill", Both, &[Benches]),
     class(20, "2 list of a sheet", Neither, &[Sheet]),
+    class(20, "2 list of sections", Both, &[Objects]),
     class(21, "0 first bytes", Neither, &[Sheet]),
     class(21, "0 old, under 20 bytes", Neither, &[Sheet]),
     class(21, "0 old, length", Neither, &[Sheet]),
@@ -199,7 +305,42 @@ pub const CLASSES: &[Class] = &[
     class(22, "line: surplus", Only32, &[Records]),
     class(23, "0", Only64, &[Records]),
     class(24, "0", Only32, &[Records]),
+    class(25, "entry: outside", Both, &[Objects]),
+    class(25, "entry: off a step", Both, &[Objects]),
+    class(25, "entry: of a list", Both, &[Objects]),
+    class(26, "0", Neither, &[Benches]),
+    class(27, "0", Neither, &[Benches]),
+    class(28, "0", Neither, &[Benches]),
+    class(29, "0 headers, text", Both, &[Rewrite]),
+    class(29, "0 headers, data", Both, &[Rewrite]),
+    class(29, "0 headers, loader", Both, &[Rewrite]),
+    class(29, "0 headers, symbols", Both, &[Rewrite]),
+    class(29, "0 text, data", Both, &[Rewrite]),
+    class(29, "0 text, loader", Both, &[Rewrite]),
+    class(29, "0 data, loader", Both, &[Rewrite]),
+    class(29, "0 text, symbols", Both, &[Rewrite]),
+    class(29, "0 data, symbols", Both, &[Rewrite]),
+    class(29, "0 loader, symbols", Both, &[Rewrite]),
+    class(29, "0 text, strings", Both, &[Rewrite]),
+    class(29, "0 data, strings", Both, &[Rewrite]),
+    class(29, "0 loader, strings", Both, &[Rewrite]),
+    class(29, "0 in loader: header, symbols", Only64, &[Rewrite]),
+    class(29, "0 in loader: header, relocations", Only64, &[Rewrite]),
+    class(29, "0 in loader: symbols, relocations", Only64, &[Rewrite]),
+    class(29, "0 in loader: header, ids", Both, &[Rewrite]),
+    class(29, "0 in loader: symbols, ids", Both, &[Rewrite]),
+    class(29, "0 in loader: relocations, ids", Both, &[Rewrite]),
+    class(29, "0 in loader: ids, strings", Both, &[Rewrite]),
+    class(29, "0 in loader: header, strings", Both, &[Rewrite]),
+    class(29, "0 in loader: symbols, strings", Both, &[Rewrite]),
+    class(29, "0 in loader: relocations, strings", Both, &[Rewrite]),
+    class(29, "0 several", Both, &[Rewrite]),
+    class(29, "0 over headers", Both, &[Salvage]),
+    class(29, "0 over debug", Both, &[Salvage]),
     class(30, "index", Only32, &[Symbol, Csect]),
+    class(31, "0 no line", Both, &[Lines]),
+    class(31, "0 none so low", Both, &[Lines]),
+    class(32, "0", Both, &[Lines]),
 ];
 
 pub fn group_of(op: &Op) -> Group {
@@ -222,6 +363,13 @@ pub fn group_of(op: &Op) -> Group {
         Op::Calls { .. } => List,
         Op::ReadSheet { .. } | Op::WriteSheet { .. } => Sheet,
         Op::RecordsLength(_) | Op::WriteRecords { .. } | Op::ReadRecords { .. } => Records,
+        Op::Object | Op::ObjectBuild { .. } | Op::ObjectMove { .. } | Op::ObjectCalls { .. } => {
+            Objects
+        }
+        Op::FindLine { .. } => Lines,
+        Op::Table(_) => Benches,
+        Op::WriteModule { .. } => Rewrite,
+        Op::Salvage { .. } => Salvage,
     }
 }
 
@@ -238,6 +386,13 @@ pub fn bits_of(file: &[u8]) -> u64 {
 /// have.
 pub fn item_of(file: &[u8], op: &Op, refusal: &Refusal) -> &'static str {
     let item = refusal.item;
+    match (group_of(op), op) {
+        (Objects, _) if open(file).is_ok() => return object_item(file, op, refusal),
+        (_, Op::FindLine { section, .. }) if open(file).is_ok() => {
+            return line_item(file, *section, refusal);
+        }
+        _ => {}
+    }
     match refusal.number {
         1 => short(file),
         3 => limit(op, item),
@@ -266,8 +421,81 @@ pub fn item_of(file: &[u8], op: &Op, refusal: &Refusal) -> &'static str {
         20 => room(file, op, item),
         21 => sheet(op),
         22 => record(file, op, item),
+        29 if item == 0 => shared(file, op),
         _ if item == 0 => "0",
         _ => "?",
+    }
+}
+
+/// What an object's own rules refuse.
+fn object_item(file: &[u8], op: &Op, refusal: &Refusal) -> &'static str {
+    let fault = entry_fault(file);
+    match (refusal.number, refusal.item) {
+        (MODULE, 3) => "3",
+        (BOUNDS, 1..) => table(table_fault(file)),
+        (LREL, _) => match fault {
+            Some(EntryFault::Type) => "entry: type",
+            Some(EntryFault::Width) => "entry: width",
+            Some(EntryFault::Outside) => "entry: outside",
+            Some(EntryFault::Symbol(INDEX)) => "entry: no symbol",
+            Some(EntryFault::Symbol(AUX)) => "entry: symbol's AUX",
+            Some(EntryFault::Symbol(SECTION)) => "entry: symbol's SECTION",
+            Some(EntryFault::Symbol(NAME)) => "entry: symbol's NAME",
+            Some(EntryFault::Symbol(VISIBILITY)) => "entry: its VISIBILITY",
+            _ => "?",
+        },
+        (OVERLAP, _) => match fault {
+            Some(EntryFault::Overlap) => "entry: fields meet",
+            Some(EntryFault::OneField) => "entry: one field",
+            _ => "?",
+        },
+        (PLAN, n) => match section(file, n).map(|section| section.flags) {
+            Ok(TEXT) => "section: text",
+            Ok(DATA) => "section: data",
+            Ok(BSS) => "section: bss",
+            _ => "?",
+        },
+        (ROOM, 0) => "0 buffer",
+        (ROOM, 2) => "2 list of sections",
+        (RANGE, _) => range(file, op),
+        _ => "?",
+    }
+}
+
+/// BOUNDS of a section's table.
+fn table(fault: Option<TableFault>) -> &'static str {
+    match fault {
+        Some(TableFault::Overflow) => "section: overflow",
+        Some(TableFault::End) => "section: table",
+        None => "?",
+    }
+}
+
+/// What the rules of lines refuse for section `n`.
+fn line_item(file: &[u8], n: u64, refusal: &Refusal) -> &'static str {
+    match (refusal.number, refusal.item) {
+        (INDEX, _) => "text section",
+        (BOUNDS, 1..) => table(line_table_fault(file, n)),
+        (NOLINE, 0) if find_line(file, n, u64::MAX).is_err() => "0 no line",
+        (NOLINE, 0) => "0 none so low",
+        (GROUP, 0) => "0",
+        _ => "?",
+    }
+}
+
+/// RANGE of a single call: what is wrong with the branch.
+fn range(file: &[u8], op: &Op) -> &'static str {
+    let (calls, buffer) = match object_calls(op) {
+        Some(found) => found,
+        None => return "?",
+    };
+    match &calls[..] {
+        [only] => match range_fault(file, only, buffer) {
+            Some(RangeFault::Outside) => "entry: outside",
+            Some(RangeFault::Step) => "entry: off a step",
+            None => "?",
+        },
+        _ => "entry: of a list",
     }
 }
 
@@ -292,6 +520,7 @@ fn limit(op: &Op, item: u64) -> &'static str {
         (2, _) => "2 loader symbols",
         (3, _) => "3 relocation entries",
         (4, _) => "4 data image",
+        (5, Op::Salvage { .. }) => "5 report",
         _ => "?",
     }
 }
@@ -338,6 +567,7 @@ fn asked(op: &Op) -> &'static str {
         Op::Symbol(_) | Op::SymbolName(_) | Op::Csect(_) => "symbol entry",
         Op::LoaderSymbol(_) | Op::LoaderSymbolName(_) => "loader symbol",
         Op::ImportPath(_) | Op::ImportBase(_) | Op::ImportMember(_) => "import id",
+        Op::Table(_) => "bench",
         _ => "?",
     }
 }
@@ -395,9 +625,12 @@ fn room(file: &[u8], op: &Op, item: u64) -> &'static str {
     match (item, op) {
         (0, Op::WriteSheet { .. }) => "0 sheet",
         (0, Op::WriteRecords { text, .. }) if fits(text) => "0 record text",
+        (0, Op::WriteModule { .. }) => "0 output",
+        (0, Op::Salvage { .. }) => "0 copy",
         (0, _) => "0 text",
         (1, _) => "1 data",
         (2, Op::ReadSheet { .. }) => "2 list of a sheet",
+        (2, Op::Table(_)) => "2 list of a fill",
         (2, _) => "2 list of a plan",
         _ => "?",
     }
@@ -418,6 +651,66 @@ fn sheet(op: &Op) -> &'static str {
         Form::New if short => "0 new, under 24 bytes",
         Form::New if sheet[2..4] != [0, 2] => "0 new, first count",
         Form::New => "0 new, length",
+    }
+}
+
+/// SHARED: the two parts that share bytes, where there are just two.
+fn shared(file: &[u8], op: &Op) -> &'static str {
+    if let (Op::Salvage { .. }, Ok(summary)) = (op, open(file)) {
+        return match shared_with(&summary) {
+            Some(SharedWith::Headers) => "0 over headers",
+            Some(SharedWith::Debug) => "0 over debug",
+            None => "?",
+        };
+    }
+    const PAIRS: &[(&str, &str)] = &[
+        ("headers, text", "0 headers, text"),
+        ("headers, data", "0 headers, data"),
+        ("headers, loader", "0 headers, loader"),
+        ("headers, symbols", "0 headers, symbols"),
+        ("text, data", "0 text, data"),
+        ("text, loader", "0 text, loader"),
+        ("data, loader", "0 data, loader"),
+        ("text, symbols", "0 text, symbols"),
+        ("data, symbols", "0 data, symbols"),
+        ("loader, symbols", "0 loader, symbols"),
+        ("text, strings", "0 text, strings"),
+        ("data, strings", "0 data, strings"),
+        ("loader, strings", "0 loader, strings"),
+        ("in loader: header, symbols", "0 in loader: header, symbols"),
+        (
+            "in loader: header, relocations",
+            "0 in loader: header, relocations",
+        ),
+        (
+            "in loader: symbols, relocations",
+            "0 in loader: symbols, relocations",
+        ),
+        ("in loader: header, ids", "0 in loader: header, ids"),
+        ("in loader: symbols, ids", "0 in loader: symbols, ids"),
+        (
+            "in loader: relocations, ids",
+            "0 in loader: relocations, ids",
+        ),
+        ("in loader: ids, strings", "0 in loader: ids, strings"),
+        ("in loader: header, strings", "0 in loader: header, strings"),
+        (
+            "in loader: symbols, strings",
+            "0 in loader: symbols, strings",
+        ),
+        (
+            "in loader: relocations, strings",
+            "0 in loader: relocations, strings",
+        ),
+    ];
+    let found = shared_parts(file);
+    match &found[..] {
+        [] => "?",
+        [only] => {
+            let known = PAIRS.iter().find(|(pair, _)| pair == only);
+            known.map_or("?", |(_, item)| item)
+        }
+        _ => "0 several",
     }
 }
 
@@ -472,30 +765,26 @@ fn can_reach((class, bits): Row, group: Group) -> bool {
 
 impl Table {
     pub fn count(&mut self, file: &[u8], op: &Op, refusal: &Refusal) {
-        let item = item_of(file, op, refusal);
+        self.add(refusal.number, item_of(file, op, refusal), file, op);
+    }
+
+    fn add(&mut self, number: u64, item: &'static str, file: &[u8], op: &Op) {
         let known = CLASSES
             .iter()
-            .find(|c| c.number == refusal.number && c.item == item);
+            .find(|c| c.number == number && c.item == item);
         let bits = match known.map(|class| class.formats) {
             Some(Neither) => 0,
             _ => bits_of(file),
         };
-        *self
-            .reached
-            .entry((refusal.number, item, bits, group_of(op)))
-            .or_insert(0) += 1;
+        let key = (number, item, bits, group_of(op));
+        *self.reached.entry(key).or_insert(0) += 1;
     }
 
     /// Counts the edges that `op` accepted on `file`; for operations that refuse
     /// nothing.
     pub fn accept(&mut self, file: &[u8], op: &Op) {
         for edge in edges::accepted(file, op) {
-            let bits = match group_of(op) {
-                Sheet => 0,
-                _ => bits_of(file),
-            };
-            let key = (0, edge, bits, group_of(op));
-            *self.reached.entry(key).or_insert(0) += 1;
+            self.add(0, edge, file, op);
         }
     }
 

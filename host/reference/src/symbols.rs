@@ -69,7 +69,7 @@ fn place(summary: &Summary, index: u64) -> usize {
 }
 
 /// Order: INDEX, AUX, SECTION, NAME, VISIBILITY.
-fn read_entry(file: &[u8], summary: &Summary, index: u64) -> Result<Symbol, Refusal> {
+pub(crate) fn read_entry(file: &[u8], summary: &Summary, index: u64) -> Result<Symbol, Refusal> {
     if index >= summary.symbols {
         return refuse(INDEX, index);
     }

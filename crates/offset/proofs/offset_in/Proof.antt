@@ -117,6 +117,24 @@ enum-told-11 c = search needs
 enum-told-12 : tie.Need-enum-told-12
 enum-told-12 c = search needs
 
+enum-told-13 : tie.Need-enum-told-13
+enum-told-13 c = search needs
+
+enum-told-14 : tie.Need-enum-told-14
+enum-told-14 c = search needs
+
+enum-told-15 : tie.Need-enum-told-15
+enum-told-15 c = search needs
+
+enum-told-16 : tie.Need-enum-told-16
+enum-told-16 c = search needs
+
+enum-told-17 : tie.Need-enum-told-17
+enum-told-17 c = search needs
+
+enum-told-18 : tie.Need-enum-told-18
+enum-told-18 c = search needs
+
 returns : tie.Need-returns
 returns c = rw (c .before .before .x .given .1) (c .limit-place .ensures)
 
@@ -192,6 +210,24 @@ returns-24 c = rw (c .enum-told11 .given .1) refl
 returns-25 : tie.Need-returns-25
 returns-25 c = rw (c .enum-told12 .given .1) refl
 
+returns-26 : tie.Need-returns-26
+returns-26 c = rw (c .enum-told13 .given .1) refl
+
+returns-27 : tie.Need-returns-27
+returns-27 c = rw (c .enum-told14 .given .1) refl
+
+returns-28 : tie.Need-returns-28
+returns-28 c = rw (c .enum-told15 .given .1) refl
+
+returns-29 : tie.Need-returns-29
+returns-29 c = rw (c .enum-told16 .given .1) refl
+
+returns-30 : tie.Need-returns-30
+returns-30 c = rw (c .enum-told17 .given .1) refl
+
+returns-31 : tie.Need-returns-31
+returns-31 c = rw (c .enum-told18 .given .1) refl
+
 pub offset-in-spec : {M : Type 1} → statement M
 offset-in-spec =
     tie.close
@@ -234,6 +270,12 @@ offset-in-spec =
     enum-told-10
     enum-told-11
     enum-told-12
+    enum-told-13
+    enum-told-14
+    enum-told-15
+    enum-told-16
+    enum-told-17
+    enum-told-18
     returns
     returns-2
     returns-3
@@ -258,4 +300,10 @@ offset-in-spec =
     returns-22
     returns-23
     returns-24
-    returns-25)
+    returns-25
+    returns-26
+    returns-27
+    returns-28
+    returns-29
+    returns-30
+    returns-31)

@@ -101,8 +101,26 @@ enum-told-5 c = search needs
 enum-told-6 : tie.Need-enum-told-6
 enum-told-6 c = search needs
 
+enum-told-7 : tie.Need-enum-told-7
+enum-told-7 c = search needs
+
+enum-told-8 : tie.Need-enum-told-8
+enum-told-8 c = search needs
+
+enum-told-9 : tie.Need-enum-told-9
+enum-told-9 c = search needs
+
+enum-told-10 : tie.Need-enum-told-10
+enum-told-10 c = search needs
+
 enum-known-x-19 : tie.Need-enum-known-x-19
 enum-known-x-19 c = search needs
+
+enum-told-11 : tie.Need-enum-told-11
+enum-told-11 c = search needs
+
+enum-told-12 : tie.Need-enum-told-12
+enum-told-12 c = search needs
 
 returns : tie.Need-returns
 returns c = rw (c .enum-told .given .1)
@@ -177,7 +195,25 @@ returns-24 : tie.Need-returns-24
 returns-24 c = rw (c .enum-told6 .given .1)
 
 returns-25 : tie.Need-returns-25
-returns-25 c = rw (c .before .x19 .given .1)
+returns-25 c = rw (c .enum-told7 .given .1)
+
+returns-26 : tie.Need-returns-26
+returns-26 c = rw (c .enum-told8 .given .1)
+
+returns-27 : tie.Need-returns-27
+returns-27 c = rw (c .enum-told9 .given .1)
+
+returns-28 : tie.Need-returns-28
+returns-28 c = rw (c .enum-told10 .given .1)
+
+returns-29 : tie.Need-returns-29
+returns-29 c = rw (c .before .x19 .given .1)
+
+returns-30 : tie.Need-returns-30
+returns-30 c = rw (c .enum-told11 .given .1)
+
+returns-31 : tie.Need-returns-31
+returns-31 c = rw (c .enum-told12 .given .1)
 
 pub item-spec : {M : Type 1} → statement M
 item-spec =
@@ -216,7 +252,13 @@ item-spec =
     enum-known-x-18
     enum-told-5
     enum-told-6
+    enum-told-7
+    enum-told-8
+    enum-told-9
+    enum-told-10
     enum-known-x-19
+    enum-told-11
+    enum-told-12
     returns
     returns-2
     returns-3
@@ -241,4 +283,10 @@ item-spec =
     returns-22
     returns-23
     returns-24
-    returns-25)
+    returns-25
+    returns-26
+    returns-27
+    returns-28
+    returns-29
+    returns-30
+    returns-31)

@@ -6,7 +6,7 @@
 
 use reference::generate::{case, damage, Case, Op};
 use reference::reached::Table;
-use reference::{answer, book, Call};
+use reference::{answer, book, object_book, run_object_call, Call, ObjectCall};
 use std::collections::BTreeMap;
 
 /// Whether the book gives what the calls give.
@@ -23,6 +23,15 @@ fn book_agrees(file: &[u8], calls: &[Call], text: &[u8], data: &[u8]) -> bool {
         }
     }
     true
+}
+
+/// The same for an object file.
+fn object_book_agrees(file: &[u8], calls: &[ObjectCall], buffer: &[u8]) -> bool {
+    let mut run = buffer.to_vec();
+    (0..calls.len()).all(|n| {
+        let _ = run_object_call(file, &calls[n], &mut run);
+        object_book(file, &calls[..=n], buffer) == run
+    })
 }
 
 #[derive(Default)]
@@ -70,12 +79,15 @@ impl Run {
                 );
             }
         }
-        if let Op::Calls { calls, text, data } = op {
-            self.lists += 1;
-            if !book_agrees(&case.file, calls, text, data) {
-                self.faults += 1;
-                println!("seed {}: the book differs", case.seed);
-            }
+        let agrees = match op {
+            Op::Calls { calls, text, data } => book_agrees(&case.file, calls, text, data),
+            Op::ObjectCalls { calls, buffer } => object_book_agrees(&case.file, calls, buffer),
+            _ => return,
+        };
+        self.lists += 1;
+        if !agrees {
+            self.faults += 1;
+            println!("seed {}: the book differs", case.seed);
         }
     }
 
@@ -99,6 +111,12 @@ impl Run {
             damage::count(),
             self.faults
         );
+        for row in self.table.missing() {
+            println!("never reached: {row}");
+        }
+        for key in self.table.strange() {
+            println!("in no row: {key}");
+        }
     }
 }
 

@@ -8,6 +8,11 @@ use crate::bytes::put;
 /// Numbers at the ends of 16, 32 and 64 bits and of the file, in any field.
 pub(super) fn odd_numbers(rng: &mut Rng) -> Made {
     let mut made = either(rng);
+    put_odd_numbers(rng, &mut made);
+    made
+}
+
+pub(super) fn put_odd_numbers(rng: &mut Rng, made: &mut Made) {
     for _ in 0..rng.pick(&[1, 1, 1, 2, 3]) {
         let field = rng.pick(&made.fields);
         let length = made.bytes.len() as u64;
@@ -37,11 +42,16 @@ pub(super) fn odd_numbers(rng: &mut Rng) -> Made {
         };
         made.put(field, value);
     }
-    made
 }
 
 pub(super) fn flips(rng: &mut Rng) -> Made {
     let mut made = either(rng);
+    flip(rng, &mut made);
+    made
+}
+
+/// Changes some bits or bytes.
+pub(super) fn flip(rng: &mut Rng, made: &mut Made) {
     for _ in 0..rng.pick(&[1, 1, 2, 4, 16]) {
         let at = rng.below(made.bytes.len() as u64) as usize;
         if rng.chance(60) {
@@ -50,7 +60,6 @@ pub(super) fn flips(rng: &mut Rng) -> Made {
             made.bytes[at] = rng.next() as u8;
         }
     }
-    made
 }
 
 pub(super) fn cut(rng: &mut Rng) -> Made {

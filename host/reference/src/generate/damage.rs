@@ -5,12 +5,17 @@
 //! in one file the one with the lower stage must be given. `ROWS` make whole
 //! cases: symbols, csects, look-ups, plans, buffers and sheets. Those of S-records
 //! are in `records`, those of debugger names in `debug`, those of visibilities in
-//! `visibility`, those of offsets in `offsets`, those of sizes in `sizes`.
+//! `visibility`, those of offsets in `offsets`, those of sizes in `sizes`,
+//! those of objects in `objects`, those of lines in `lines`,
+//! those of the address table in `benches`, those of moved modules in `rewrites`,
+//! those of salvage in `salvages`.
 
 use super::make::{self, top, Aux, Field, Head, Made, Part, Wish};
 use super::plans::{buffers, fitting_plan, past_end, reveal_module, reveal_open};
 use super::rng::Rng;
-use super::{debug, offsets, records, sizes, visibility, Op};
+use super::{
+    benches, debug, lines, objects, offsets, records, rewrites, salvages, sizes, visibility, Op,
+};
 use crate::bytes::put;
 use crate::opening::{
     BSS, DATA, DELETED, DWARF, INFO, KINDS, LOADER as LOADER_KIND, OVRFLO, TBSS, TDATA, TEXT,
@@ -1533,9 +1538,14 @@ pub fn symbols_count() -> usize {
     records_count() + debug::ROWS.len() + visibility::ROWS.len() + offsets::ROWS.len()
 }
 
+/// How many damages there are with those of sizes, objects and lines.
+pub fn lines_count() -> usize {
+    symbols_count() + sizes::ROWS.len() + objects::ROWS.len() + lines::ROWS.len()
+}
+
 /// How many damages there are in all.
 pub fn count() -> usize {
-    symbols_count() + sizes::ROWS.len()
+    lines_count() + benches::ROWS.len() + rewrites::ROWS.len() + salvages::ROWS.len()
 }
 
 /// The rows in their order: document 01, then the requests.
@@ -1546,6 +1556,11 @@ pub fn rows() -> impl Iterator<Item = &'static Row> {
         .chain(visibility::ROWS)
         .chain(offsets::ROWS)
         .chain(sizes::ROWS)
+        .chain(objects::ROWS)
+        .chain(lines::ROWS)
+        .chain(benches::ROWS)
+        .chain(rewrites::ROWS)
+        .chain(salvages::ROWS)
 }
 
 /// The names of all damages.

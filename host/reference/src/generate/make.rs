@@ -4,6 +4,8 @@ mod assemble;
 mod aux_header;
 mod debug;
 mod layout;
+pub mod line_tables;
+pub mod linkable;
 mod loader_section;
 mod loader_symbols;
 mod names;
@@ -17,7 +19,8 @@ pub use crate::bytes::top;
 pub use debug::DEBUG_CLASSES;
 pub use layout::fitting_address;
 pub use places::{
-    aux_field, head_field, Aux, Field, Head, Made, MadeEntry, MadeLoaderSymbol, MadeSymbol, Part,
+    aux_field, head_field, Aux, Field, Head, Made, MadeEntry, MadeLine, MadeLoaderSymbol, MadeRow,
+    MadeSymbol, Part, RowPart,
 };
 
 use super::rng::Rng;
@@ -26,9 +29,11 @@ use assemble::assemble;
 use aux_header::aux_header;
 use debug::debug_section;
 use layout::Layout;
+use line_tables::add_line_tables;
+use linkable::add_tables;
 use loader_section::loader_section;
-use sections::{module_kinds, module_pieces, object_pieces, Numbers};
-use symbol_table::symbol_table;
+use sections::{linkable_pieces, module_kinds, module_pieces, object_pieces, Numbers, Piece};
+use symbol_table::{symbol_table, SymbolTable};
 use version::version;
 
 /// What a module or object should have; the rest is left to chance.
@@ -60,6 +65,8 @@ pub struct Wish {
     pub kinds: Vec<u64>,
     /// No section of this kind.
     pub without: Option<u64>,
+    /// Lines for every text section of an object.
+    pub lines: bool,
     /// Just one debug section with raw data, where there is room for one.
     pub debug: bool,
     /// The auxiliary header's version, where it is long enough.
@@ -109,17 +116,61 @@ pub fn object(rng: &mut Rng, wish: &Wish) -> Made {
         None if rng.chance(5) => rng.between(0, 32),
         None => rng.between(0, 7),
     };
-    let mut pieces = object_pieces(rng, bits, count);
-    let opthdr = match wish.opthdr {
-        Some(opthdr) => opthdr,
-        None => rng.pick(&[0, 0, 0, 4, 28, 28, by(bits, 72, 110), 130]),
-    };
-    let mut aux = rng.bytes(opthdr);
-    let mut symbols = if wish.rich || rng.chance(85) {
+    let pieces = object_pieces(rng, bits, count);
+    let aux = object_aux(rng, bits, wish);
+    let symbols = if wish.rich || rng.chance(85) {
         Some(symbol_table(rng, bits, count, wish))
     } else {
         None
     };
+    together(rng, bits, wish, pieces, aux, symbols)
+}
+
+/// An object whose text and data sections have relocation tables, and text sections
+/// line tables.
+pub fn linkable(rng: &mut Rng, wish: &Wish) -> Made {
+    let bits = any_bits(rng, wish);
+    let pieces = linkable_pieces(rng, bits, wish);
+    let aux = object_aux(rng, bits, wish);
+    let symbols = if wish.rich || rng.chance(90) {
+        Some(closed_table(rng, bits, pieces.len() as u64, wish))
+    } else {
+        None
+    };
+    let mut made = together(rng, bits, wish, pieces, aux, symbols);
+    add_tables(rng, &mut made, wish);
+    add_line_tables(&mut rng.aside(), &mut made, wish);
+    made
+}
+
+/// A symbol table that isn't open at its end: more may follow it.
+fn closed_table(rng: &mut Rng, bits: u64, sections: u64, wish: &Wish) -> SymbolTable {
+    loop {
+        let table = symbol_table(rng, bits, sections, wish);
+        if !table.tail.is_empty() {
+            return table;
+        }
+    }
+}
+
+/// An object's auxiliary header: any bytes.
+fn object_aux(rng: &mut Rng, bits: u64, wish: &Wish) -> Vec<u8> {
+    let opthdr = match wish.opthdr {
+        Some(opthdr) => opthdr,
+        None => rng.pick(&[0, 0, 0, 4, 28, 28, by(bits, 72, 110), 130]),
+    };
+    rng.bytes(opthdr)
+}
+
+/// An object of these parts; what belongs to requests 1 and 9 is drawn aside.
+fn together(
+    rng: &mut Rng,
+    bits: u64,
+    wish: &Wish,
+    mut pieces: Vec<Piece>,
+    mut aux: Vec<u8>,
+    mut symbols: Option<SymbolTable>,
+) -> Made {
     let side = &mut rng.aside();
     let debug = debug_section(side, bits, wish, &mut pieces, symbols.as_mut());
     version(side, bits, wish, &mut aux, symbols.as_mut());

@@ -3,7 +3,7 @@
 use super::make::{fitting_address, top, Made};
 use super::rng::Rng;
 use super::Op;
-use crate::{Call, Plan};
+use crate::{Call, Plan, TableCall};
 
 /// A plan whose addresses fit; junk at ignored places.
 pub fn fitting_plan(rng: &mut Rng, made: &Made) -> Plan {
@@ -169,8 +169,26 @@ pub fn near(rng: &mut Rng, first: u64, count: u64) -> u64 {
     }
 }
 
-/// An operation that gives a refusal of opening.
+/// An operation that gives a refusal of opening; those of later requests are drawn
+/// aside.
 pub fn reveal_open(rng: &mut Rng, made: &Made) -> Op {
+    let side = &mut rng.aside();
+    let op = any_open(rng, made);
+    match side.below(24) {
+        0 => Op::Object,
+        1 => Op::FindLine {
+            section: near(side, 1, made.flags.len() as u64),
+            address: side.next(),
+        },
+        2 => Op::Salvage {
+            copy: side.bytes(made.bytes.len().min(2_000)),
+            report: side.bytes(16),
+        },
+        _ => op,
+    }
+}
+
+fn any_open(rng: &mut Rng, made: &Made) -> Op {
     match rng.below(8) {
         0 => Op::Section(near(rng, 1, made.flags.len() as u64)),
         1 => Op::SectionName(near(rng, 1, made.flags.len() as u64)),
@@ -183,8 +201,25 @@ pub fn reveal_open(rng: &mut Rng, made: &Made) -> Op {
     }
 }
 
-/// An operation that gives a refusal of the module.
+/// An operation that gives a refusal of the module; those of later requests are drawn
+/// aside.
 pub fn reveal_module(rng: &mut Rng, made: &Made) -> Op {
+    let side = &mut rng.aside();
+    let op = any_reveal(rng, made);
+    match side.below(8) {
+        0 => Op::Table(vec![TableCall::Fill {
+            bench: side.between(1, 2),
+            list: vec![7; made.loader_symbols.len()],
+        }]),
+        1 => Op::WriteModule {
+            plan: any_plan(side, made),
+            out: side.bytes(made.bytes.len().min(2_000)),
+        },
+        _ => op,
+    }
+}
+
+fn any_reveal(rng: &mut Rng, made: &Made) -> Op {
     match rng.below(12) {
         0 => Op::LoaderSymbol(near(rng, 3, made.loader_symbols.len() as u64)),
         1 => Op::LoaderSymbolName(near(rng, 3, made.loader_symbols.len() as u64)),

@@ -109,17 +109,29 @@ fn read(rng: &mut Rng, sheet: Vec<u8>, length: usize, number: u64, item: u64) ->
 }
 
 pub(super) static EDGES: &[Edge] = &[
-    ("old sheet", |rng| {
-        let k = rng.pick(&[0, 1, 4_095, 4_096]);
-        Some((plain(rng), vec![good_read(rng, Form::Old, k)]))
+    ("short sheets", |rng| {
+        let k = rng.below(2) as usize;
+        let ops = vec![
+            good_read(rng, Form::Old, 0),
+            good_read(rng, Form::New, 0),
+            good_read(rng, Form::New, k),
+            good_write(rng, 0),
+        ];
+        Some((plain(rng), ops))
     }),
-    ("new sheet", |rng| {
-        let k = rng.pick(&[0, 1, 4_096, 4_097, 69_999, 70_000]);
-        Some((plain(rng), vec![good_read(rng, Form::New, k)]))
+    ("sheets around 4,096", |rng| {
+        let k = rng.pick(&[4_095, 4_096]);
+        let ops = vec![
+            good_read(rng, Form::Old, k),
+            good_read(rng, Form::Old, 4_096),
+            good_read(rng, Form::New, 4_097),
+            good_write(rng, 4_097),
+        ];
+        Some((plain(rng), ops))
     }),
-    ("sheet written", |rng| {
-        let k = rng.pick(&[0, 1, 4_096, 4_097, 69_999, 70_000]);
-        Some((plain(rng), vec![good_write(rng, k)]))
+    ("sheets of 70,000", |rng| {
+        let ops = vec![good_read(rng, Form::New, 70_000), good_write(rng, 70_000)];
+        Some((plain(rng), ops))
     }),
     ("70,000 loader symbols", |rng| {
         let made = module(rng, |wish| wish.loader_symbols = Some(70_000));

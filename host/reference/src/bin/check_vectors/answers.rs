@@ -1,6 +1,6 @@
 //! The answer to each case.
 
-use crate::json::{hex, num, object, Json};
+use crate::json::{hex, keyed, num, Json};
 use crate::records::*;
 use reference::*;
 
@@ -9,10 +9,14 @@ pub fn answer(case: &Json) -> Json {
     let file = &file(case)[..];
     match case.get("op").text() {
         "build" | "move" | "module_calls" => image_answer(file, case),
+        "object_build" | "object_move" | "object_calls" => placed_answer(file, case),
         "sheet_read" => sheet_read(case),
         "sheet_write" => sheet_write(case),
         "srecord_write" => srecord_write(file, case),
         "srecord_read" => srecord_read(file, case),
+        "write_module" => module_written(file, case),
+        "salvage" => salvaged(file, case),
+        "table" => alone(table_answer(case.get("calls").list())),
         "list" => alone(Json::Text(list_headers(file))),
         op => alone(given(read_answer(file, op, case))),
     }
@@ -31,7 +35,7 @@ pub fn file(case: &Json) -> Vec<u8> {
 
 /// An answer of an operation that changes no buffer.
 fn alone(answer: Json) -> Json {
-    object(vec![("answer", answer)])
+    keyed(vec![("answer", answer)])
 }
 
 /// What is read of a file.
@@ -46,6 +50,8 @@ fn read_answer(file: &[u8], op: &str, case: &Json) -> Result<Json, Refusal> {
         "module" => module_json(file),
         "loader_symbol" => Ok(loader_symbol_json(file, &loader_symbol(file, index())?)),
         "import_id" => import_id(file, index()),
+        "object" => Ok(object_json(file, &object(file)?)),
+        "find_line" => line_answer(file, case),
         other => panic!("operation {other}"),
     }
 }
@@ -75,13 +81,13 @@ fn walk_answer(file: &[u8]) -> Result<Json, Refusal> {
         Some(refusal) => refused(refusal),
         None => Json::Null,
     };
-    Ok(object(vec![("entries", Json::List(entries)), ("end", end)]))
+    Ok(keyed(vec![("entries", Json::List(entries)), ("end", end)]))
 }
 
 fn csect_answer(file: &[u8], index: u64) -> Result<Json, Refusal> {
     let found = csect(file, index)?;
     let entry = symbol(file, index).expect("its own read came first");
-    Ok(object(vec![
+    Ok(keyed(vec![
         ("symbol", symbol_json(file, &entry)),
         ("length", num(found.length)),
         ("align_log", num(found.alignment)),
@@ -95,6 +101,17 @@ fn import_id(file: &[u8], id: u64) -> Result<Json, Refusal> {
         name(file, import_path(file, id)?),
         name(file, import_base(file, id)?),
         name(file, import_member(file, id)?),
+    ]))
+}
+
+fn line_answer(file: &[u8], case: &Json) -> Result<Json, Refusal> {
+    let (section, address) = (case.get("section").number(), case.get("address").number());
+    let found = find_line(file, section, address)?;
+    Ok(keyed(vec![
+        ("entry", num(found.entry)),
+        ("address", num(found.address)),
+        ("line", num(found.line)),
+        ("symbol", num(found.symbol)),
     ]))
 }
 
@@ -117,8 +134,8 @@ fn image_answer(file: &[u8], case: &Json) -> Json {
             given(result.map(reached_json))
         }
     };
-    let lent = object(vec![("text", hex(&text)), ("data", hex(&data))]);
-    object(vec![("answer", answer), ("buffers", lent)])
+    let lent = keyed(vec![("text", hex(&text)), ("data", hex(&data))]);
+    keyed(vec![("answer", answer), ("buffers", lent)])
 }
 
 fn call(word: &str, json: &Json) -> Call {
@@ -146,13 +163,109 @@ fn calls_answer(file: &[u8], list: &[Json], text: &mut [u8], data: &mut [u8]) ->
     Json::List(answers)
 }
 
+/// A build or a move of an object file, or a list of them, with the buffer
+/// afterwards.
+fn placed_answer(file: &[u8], case: &Json) -> Json {
+    let mut buffer = case.get("buffers").get("buffer").bytes();
+    let answer = match case.get("op").text() {
+        "object_calls" => placed_calls(file, case.get("calls").list(), &mut buffer),
+        op => {
+            let word = op.trim_start_matches("object_");
+            let result = run_object_call(file, &object_call(word, case), &mut buffer);
+            given(result.map(|()| Json::Null))
+        }
+    };
+    let lent = keyed(vec![("buffer", hex(&buffer))]);
+    keyed(vec![("answer", answer), ("buffers", lent)])
+}
+
+fn object_call(word: &str, json: &Json) -> ObjectCall {
+    let list = |key| json.get(key).numbers();
+    match word {
+        "build" => ObjectCall::Build(list("plan")),
+        "move" => ObjectCall::Move(list("from"), list("to")),
+        other => panic!("call {other}"),
+    }
+}
+
+/// One answer for each call, with the buffer after it, which is the book's.
+fn placed_calls(file: &[u8], list: &[Json], buffer: &mut [u8]) -> Json {
+    let start = buffer.to_vec();
+    let mut calls = Vec::new();
+    let mut answers = Vec::new();
+    for json in list {
+        let call = object_call(json.get("call").text(), json);
+        let result = run_object_call(file, &call, buffer);
+        calls.push(call);
+        let book = object_book(file, &calls, &start);
+        assert!(book == buffer, "the book differs");
+        let answer = given(result.map(|()| Json::Null));
+        answers.push(Json::List(vec![answer, hex(buffer)]));
+    }
+    Json::List(answers)
+}
+
+/// One answer for each call on a table that starts empty; a fill's with its list
+/// afterwards.
+fn table_answer(calls: &[Json]) -> Json {
+    let mut table = AddressTable::default();
+    let one = |json: &Json| {
+        let answer = run_table_call(&mut table, &self::file(json), &table_call(json));
+        match answer {
+            TableAnswer::Done => Json::Null,
+            TableAnswer::Address(address) => num(address),
+            TableAnswer::Refused(refusal) => refused(refusal),
+            TableAnswer::Filled(result, list) => {
+                let list = Json::List(list.into_iter().map(num).collect());
+                Json::List(vec![given(result.map(|()| Json::Null)), list])
+            }
+        }
+    };
+    Json::List(calls.iter().map(one).collect())
+}
+
+fn table_call(json: &Json) -> TableCall {
+    let bench = json.get("bench").number();
+    let row = || RowKey {
+        bench,
+        file_id: json.get("file_id").number(),
+        name: json.get("name").bytes(),
+    };
+    match json.get("call").text() {
+        "add" => TableCall::Add(row(), json.get("address").number()),
+        "remove" => TableCall::Remove(row()),
+        "lookup" => TableCall::LookUp(row()),
+        "fill" => TableCall::Fill {
+            bench,
+            list: json.get("list").numbers(),
+        },
+        other => panic!("call {other}"),
+    }
+}
+
+fn module_written(file: &[u8], case: &Json) -> Json {
+    let mut out = case.get("buffers").get("out").bytes();
+    let result = write_module(file, &plan(case.get("plan")), &mut out);
+    let answer = given(result.map(|()| Json::Null));
+    let lent = keyed(vec![("out", hex(&out))]);
+    keyed(vec![("answer", answer), ("buffers", lent)])
+}
+
+fn salvaged(file: &[u8], case: &Json) -> Json {
+    let lent = case.get("buffers");
+    let (mut copy, mut report) = (lent.get("copy").bytes(), lent.get("report").bytes());
+    let answer = given(salvage(file, &mut copy, &mut report).map(num));
+    let lent = keyed(vec![("copy", hex(&copy)), ("report", hex(&report))]);
+    keyed(vec![("answer", answer), ("buffers", lent)])
+}
+
 fn sheet_read(case: &Json) -> Json {
     let mut list = case.get("list").numbers();
     let result = read_sheet(&case.get("sheet").bytes(), &mut list);
-    let bases = |(text, data)| object(vec![("text", num(text)), ("data", num(data))]);
+    let bases = |(text, data)| keyed(vec![("text", num(text)), ("data", num(data))]);
     let answer = given(result.map(bases));
     let list = list.into_iter().map(num).collect();
-    object(vec![("answer", answer), ("list", Json::List(list))])
+    keyed(vec![("answer", answer), ("list", Json::List(list))])
 }
 
 fn sheet_write(case: &Json) -> Json {
@@ -160,9 +273,9 @@ fn sheet_write(case: &Json) -> Json {
     let plan = plan(case.get("plan"));
     let result = write_sheet(plan.text, plan.data, &plan.list, &mut sheet);
     let answer = given(result.map(|()| Json::Null));
-    object(vec![
+    keyed(vec![
         ("answer", answer),
-        ("buffers", object(vec![("sheet", hex(&sheet))])),
+        ("buffers", keyed(vec![("sheet", hex(&sheet))])),
     ])
 }
 
@@ -173,12 +286,12 @@ fn srecord_write(file: &[u8], case: &Json) -> Json {
     let plan = plan(case.get("plan"));
     let result = write_records(file, &plan, &text, &data, &mut records);
     let answer = given(result.map(|()| Json::Null));
-    let lent = object(vec![
+    let lent = keyed(vec![
         ("text", hex(&text)),
         ("data", hex(&data)),
         ("records", hex(&records)),
     ]);
-    object(vec![("answer", answer), ("buffers", lent)])
+    keyed(vec![("answer", answer), ("buffers", lent)])
 }
 
 fn srecord_read(file: &[u8], case: &Json) -> Json {
@@ -188,6 +301,6 @@ fn srecord_read(file: &[u8], case: &Json) -> Json {
     let plan = plan(case.get("plan"));
     let result = read_records(file, &plan, &records, &mut text, &mut data);
     let answer = given(result.map(|()| Json::Null));
-    let lent = object(vec![("text", hex(&text)), ("data", hex(&data))]);
-    object(vec![("answer", answer), ("buffers", lent)])
+    let lent = keyed(vec![("text", hex(&text)), ("data", hex(&data))]);
+    keyed(vec![("answer", answer), ("buffers", lent)])
 }

@@ -176,7 +176,7 @@ pub fn hex(bytes: &[u8]) -> Json {
     Json::Text(bytes.iter().map(|byte| format!("{byte:02x}")).collect())
 }
 
-pub fn object(all: Vec<(&str, Json)>) -> Json {
+pub fn keyed(all: Vec<(&str, Json)>) -> Json {
     Json::Object(
         all.into_iter()
             .map(|(key, value)| (key.to_string(), value))

@@ -1,11 +1,11 @@
 //! What the operations give, in the words of the recorded answers.
 
-use crate::json::{hex, num, object, Json};
+use crate::json::{hex, keyed, num, Json};
 use reference::*;
 use std::ops::Range;
 
 pub fn refused(refusal: Refusal) -> Json {
-    object(vec![(
+    keyed(vec![(
         "refused",
         Json::List(vec![
             num(refusal.number),
@@ -28,12 +28,12 @@ pub fn name(file: &[u8], range: Range<usize>) -> Json {
     if !range.is_empty() {
         all.push(("at", num(range.start as u64)));
     }
-    object(all)
+    keyed(all)
 }
 
 pub fn section_json(file: &[u8], n: u64, section: &Section) -> Json {
     let name = section_name(file, n).expect("the section is there");
-    object(vec![
+    keyed(vec![
         ("number", num(n)),
         ("name", hex(&file[name.clone()])),
         ("header_at", num(name.start as u64)),
@@ -41,6 +41,10 @@ pub fn section_json(file: &[u8], n: u64, section: &Section) -> Json {
         ("vaddr", num(section.vaddr)),
         ("size", num(section.size)),
         ("scnptr", num(section.scnptr)),
+        ("relptr", num(section.relptr)),
+        ("lnnoptr", num(section.lnnoptr)),
+        ("nreloc", num(section.nreloc)),
+        ("nlnno", num(section.nlnno)),
         ("flags", num(section.whole_flags)),
         (
             "kind",
@@ -55,7 +59,7 @@ pub fn summary_json(file: &[u8], summary: &Summary) -> Json {
     for (i, section) in summary.sections.iter().enumerate() {
         sections.push(section_json(file, i as u64 + 1, section));
     }
-    object(vec![
+    keyed(vec![
         ("fmt", Json::Text(format!("XCOFF{}", summary.bits))),
         ("nscns", num(summary.sections.len() as u64)),
         ("symptr", num(summary.symptr)),
@@ -68,7 +72,7 @@ pub fn summary_json(file: &[u8], summary: &Summary) -> Json {
 }
 
 pub fn symbol_json(file: &[u8], entry: &Symbol) -> Json {
-    object(vec![
+    keyed(vec![
         ("index", num(entry.index)),
         ("name", name(file, entry.name.clone())),
         ("value", num(entry.value)),
@@ -81,7 +85,7 @@ pub fn symbol_json(file: &[u8], entry: &Symbol) -> Json {
 }
 
 pub fn loader_symbol_json(file: &[u8], entry: &LoaderSymbol) -> Json {
-    object(vec![
+    keyed(vec![
         ("index", num(entry.index)),
         ("name", name(file, entry.name.clone())),
         ("value", num(entry.value)),
@@ -103,7 +107,7 @@ pub fn module_json(file: &[u8]) -> Result<Json, Refusal> {
     }
     let mut entries = Vec::new();
     for (i, entry) in relocations(file)?.iter().enumerate() {
-        entries.push(object(vec![
+        entries.push(keyed(vec![
             ("entry", num(i as u64)),
             ("address", num(entry.address)),
             ("symbol", num(entry.symbol)),
@@ -113,7 +117,7 @@ pub fn module_json(file: &[u8]) -> Result<Json, Refusal> {
             ("width", num(entry.width)),
         ]));
     }
-    Ok(object(vec![
+    Ok(keyed(vec![
         ("o", summary_json(file, &summary)),
         ("text", part(m.text)),
         ("data", part(m.data)),
@@ -135,8 +139,57 @@ pub fn reached_json(reached: Reached) -> Json {
         Some(address) => num(address),
         None => Json::Null,
     };
-    object(vec![
+    keyed(vec![
         ("entry", one(reached.entry)),
         ("toc", one(reached.toc)),
+    ])
+}
+
+pub fn object_json(file: &[u8], object: &Object) -> Json {
+    let sections = &object.summary.sections;
+    let part = |n: u64| section_json(file, n, &sections[n as usize - 1]);
+    let placed = object.placed.iter();
+    let starts = placed.clone().map(|p| (p.number.to_string(), num(p.start)));
+    let entries = object.entries.iter().enumerate();
+    keyed(vec![
+        ("o", summary_json(file, &object.summary)),
+        (
+            "placed",
+            Json::List(placed.map(|p| part(p.number)).collect()),
+        ),
+        ("starts", Json::Object(starts.collect())),
+        ("size", num(object.length)),
+        (
+            "entries",
+            Json::List(entries.map(|(i, e)| entry_json(i, e)).collect()),
+        ),
+    ])
+}
+
+fn entry_json(i: usize, entry: &ObjectEntry) -> Json {
+    let how = match entry.change {
+        Change::Nothing => "ref",
+        change if change.is_branch() => "branch",
+        _ => "plain",
+    };
+    let sign = match entry.change {
+        Change::Nothing => 0,
+        Change::Subtract => -1,
+        _ => 1,
+    };
+    keyed(vec![
+        ("entry", num(i as u64)),
+        ("at", num(entry.at as u64)),
+        ("address", num(entry.address)),
+        ("symbol", num(entry.symbol)),
+        ("rsize", num(entry.size)),
+        ("rtype", num(entry.kind)),
+        ("how", Json::Text(how.to_string())),
+        ("sign", Json::Number(sign)),
+        ("relative", Json::Bool(entry.change == Change::Relative)),
+        ("width", num(entry.width)),
+        ("place", num(entry.place as u64)),
+        ("own_section", num(entry.section)),
+        ("symbol_section", num(entry.moves_with)),
     ])
 }

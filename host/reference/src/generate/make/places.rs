@@ -37,6 +37,29 @@ pub struct MadeEntry {
     pub symbol: u64,
 }
 
+/// A relocation entry of an object's section.
+#[derive(Clone, Debug)]
+pub struct MadeRow {
+    pub section: u64,
+    /// Where it lies in the file.
+    pub at: usize,
+    pub address: u64,
+    pub symbol: u64,
+    /// `r_rsize` and `r_rtype`.
+    pub size: u64,
+    pub kind: u64,
+}
+
+/// An entry of a line table; with line 0 its value is a function's.
+#[derive(Clone, Debug)]
+pub struct MadeLine {
+    pub section: u64,
+    /// Where it lies in the file.
+    pub at: usize,
+    pub value: u64,
+    pub line: u64,
+}
+
 /// A made file and its places.
 #[derive(Clone, Debug, Default)]
 pub struct Made {
@@ -79,6 +102,10 @@ pub struct Made {
     pub debug_size: usize,
     /// Where its strings start, past their lengths.
     pub debug_names: Vec<u64>,
+    /// The relocation entries of an object's sections, as they are numbered.
+    pub rows: Vec<MadeRow>,
+    /// The line tables of an object's text sections, one after the other.
+    pub lines: Vec<MadeLine>,
 }
 
 /// Parts of a section header.
@@ -88,6 +115,10 @@ pub enum Part {
     Vaddr,
     Size,
     Pointer,
+    RelocationPointer,
+    LinePointer,
+    RelocationCount,
+    LineCount,
     Flags,
 }
 
@@ -257,12 +288,39 @@ impl Made {
             Part::Vaddr => (by(self.bits, 12, 16), self.word()),
             Part::Size => (by(self.bits, 16, 24), self.word()),
             Part::Pointer => (by(self.bits, 20, 32), self.word()),
+            Part::RelocationPointer => (by(self.bits, 24, 40), self.word()),
+            Part::LinePointer => (by(self.bits, 28, 48), self.word()),
+            Part::RelocationCount => (by(self.bits, 32, 56), by(self.bits, 2, 4)),
+            Part::LineCount => (by(self.bits, 34, 60), by(self.bits, 2, 4)),
             Part::Flags => (by(self.bits, 36, 64), 4),
         };
         Field {
             at: self.section_at(n) + at,
             length,
         }
+    }
+
+    /// What the header of section `n` has there.
+    pub fn part(&self, n: u64, part: Part) -> u64 {
+        self.get(self.section_field(n, part))
+    }
+
+    pub fn put_part(&mut self, n: u64, part: Part, value: u64) {
+        self.put(self.section_field(n, part), value);
+    }
+
+    /// Both addresses of section `n`.
+    pub fn put_address(&mut self, n: u64, address: u64) {
+        self.put_part(n, Part::Paddr, address);
+        self.put_part(n, Part::Vaddr, address);
+    }
+
+    /// The numbers of the sections whose kind is one of these.
+    pub fn sections_of(&self, kinds: &[u64]) -> Vec<u64> {
+        let numbers = 1..=self.flags.len() as u64;
+        numbers
+            .filter(|&n| kinds.contains(&self.flags[n as usize - 1]))
+            .collect()
     }
 
     pub fn aux(&self, aux: Aux) -> Field {
@@ -300,6 +358,12 @@ impl Made {
             put(&mut self.bytes, at, 4, 0);
         }
         self.put(self.name_offset_field(index), offset);
+    }
+
+    /// The entry's section number; a negative one in two's complement.
+    pub fn set_symbol_section(&mut self, index: u64, number: u64) {
+        let at = self.symbol_at(index) + 12;
+        put(&mut self.bytes, at, 2, number);
     }
 
     pub fn set_class(&mut self, index: u64, class: u64) {
@@ -381,6 +445,158 @@ impl Made {
             length: 2,
         }
     }
+}
+
+/// Relocation entries of an object's sections.
+impl Made {
+    /// Length of one.
+    pub fn row_length(&self) -> usize {
+        by(self.bits, 10, 14)
+    }
+
+    pub fn row_field(&self, i: usize, part: RowPart) -> Field {
+        let (at, length) = match part {
+            RowPart::Address => (0, self.word()),
+            RowPart::Symbol => (self.word(), 4),
+            RowPart::Size => (by(self.bits, 8, 12), 1),
+            RowPart::Kind => (by(self.bits, 9, 13), 1),
+        };
+        Field {
+            at: self.rows[i].at + at,
+            length,
+        }
+    }
+
+    /// Changes a row, in the file and in the list.
+    pub fn set_row(&mut self, i: usize, part: RowPart, value: u64) {
+        self.put(self.row_field(i, part), value);
+        let row = &mut self.rows[i];
+        *match part {
+            RowPart::Address => &mut row.address,
+            RowPart::Symbol => &mut row.symbol,
+            RowPart::Size => &mut row.size,
+            RowPart::Kind => &mut row.kind,
+        } = value;
+    }
+
+    /// Adds the table of section `n` at the file's end; tables are added in the order
+    /// of the sections.
+    pub fn add_rows(&mut self, n: u64, rows: &[MadeRow]) {
+        let start = self.bytes.len();
+        self.put_part(n, Part::RelocationPointer, start as u64);
+        self.put_part(n, Part::RelocationCount, rows.len() as u64);
+        for row in rows {
+            let at = self.bytes.len();
+            self.bytes.resize(at + self.row_length(), 0);
+            self.rows.push(MadeRow {
+                section: n,
+                at,
+                ..row.clone()
+            });
+            let i = self.rows.len() - 1;
+            for (part, value) in [
+                (RowPart::Address, row.address),
+                (RowPart::Symbol, row.symbol),
+                (RowPart::Size, row.size),
+                (RowPart::Kind, row.kind),
+            ] {
+                self.put(self.row_field(i, part), value);
+            }
+        }
+    }
+
+    /// The tables' places in the headers, and the first rows.
+    pub(super) fn record_rows(&mut self) {
+        for n in 1..=self.flags.len() as u64 {
+            for part in [Part::RelocationPointer, Part::RelocationCount] {
+                self.fields.push(self.section_field(n, part));
+            }
+        }
+        for i in 0..self.rows.len().min(16) {
+            for part in RowPart::ALL {
+                self.fields.push(self.row_field(i, part));
+            }
+        }
+    }
+}
+
+/// Line tables.
+impl Made {
+    /// Length of an entry.
+    pub fn line_length(&self) -> usize {
+        by(self.bits, 6, 12)
+    }
+
+    /// The value, and the line number, of the `i`-th entry.
+    pub fn line_fields(&self, i: usize) -> [Field; 2] {
+        let at = self.lines[i].at;
+        let number = Field {
+            at: at + self.word(),
+            length: by(self.bits, 2, 4),
+        };
+        let length = self.word();
+        [Field { at, length }, number]
+    }
+
+    /// Changes an entry, in the file and in the list.
+    pub fn set_line(&mut self, i: usize, value: u64, line: u64) {
+        let [value_field, line_field] = self.line_fields(i);
+        self.put(value_field, value);
+        self.put(line_field, line);
+        (self.lines[i].value, self.lines[i].line) = (value, line);
+    }
+
+    /// Adds the line table of section `n` at the file's end; tables are added in the
+    /// order of the sections.
+    pub fn add_lines(&mut self, n: u64, lines: &[MadeLine]) {
+        self.put_part(n, Part::LinePointer, self.bytes.len() as u64);
+        self.put_part(n, Part::LineCount, lines.len() as u64);
+        for line in lines {
+            let at = self.bytes.len();
+            self.bytes.resize(at + self.line_length(), 0);
+            self.lines.push(MadeLine {
+                section: n,
+                at,
+                ..line.clone()
+            });
+            self.set_line(self.lines.len() - 1, line.value, line.line);
+        }
+    }
+
+    /// The entries of section `n`, by their places in the list.
+    pub fn lines_of(&self, n: u64) -> Vec<usize> {
+        let of_section = |&i: &usize| self.lines[i].section == n;
+        (0..self.lines.len()).filter(of_section).collect()
+    }
+
+    pub(super) fn record_lines(&mut self) {
+        for n in 1..=self.flags.len() as u64 {
+            for part in [Part::LinePointer, Part::LineCount] {
+                self.fields.push(self.section_field(n, part));
+            }
+        }
+        for i in 0..self.lines.len().min(16) {
+            self.fields.extend(self.line_fields(i));
+        }
+    }
+}
+
+/// Parts of a relocation entry of an object's section.
+#[derive(Clone, Copy)]
+pub enum RowPart {
+    Address,
+    Symbol,
+    Size,
+    Kind,
+}
+
+impl RowPart {
+    const ALL: [RowPart; 4] = [
+        RowPart::Address,
+        RowPart::Symbol,
+        RowPart::Size,
+        RowPart::Kind,
+    ];
 }
 
 /// The list of fields.

@@ -154,6 +154,46 @@ pub(super) fn object_pieces(rng: &mut Rng, bits: u64, count: u64) -> Vec<Piece> 
     pieces
 }
 
+/// The sections of an object that can be placed: text and data with raw data.
+pub(super) fn linkable_pieces(rng: &mut Rng, bits: u64, wish: &Wish) -> Vec<Piece> {
+    let mut pieces = Vec::new();
+    for kind in linkable_kinds(rng, wish) {
+        let mut piece = any_piece(rng, bits, kind);
+        if kind == TEXT || kind == DATA || kind == BSS {
+            let size = match wish {
+                _ if wish.huge => rng.between(300_000, 400_000),
+                _ if wish.rich => rng.between(40, 90),
+                _ if rng.chance(15) => 0,
+                _ => rng.between(1, 90),
+            };
+            piece.size = size;
+            piece.set_address(fitting_address(rng, bits, size));
+            if kind != BSS {
+                piece.fill(rng, size);
+            }
+        }
+        pieces.push(piece);
+    }
+    pieces
+}
+
+/// Some of text, data and bss, and others, in any order.
+fn linkable_kinds(rng: &mut Rng, wish: &Wish) -> Vec<u64> {
+    let mut kinds = wish.kinds.clone();
+    if wish.rich {
+        kinds.extend([TEXT, DATA, BSS]);
+    }
+    let more = if wish.rich { 3 } else { 7 };
+    for _ in 0..rng.between(0, more) {
+        kinds.push(match rng.below(10) {
+            0 => OVRFLO,
+            _ => object_kind(rng),
+        });
+    }
+    rng.shuffle(&mut kinds);
+    kinds
+}
+
 fn object_kind(rng: &mut Rng) -> u64 {
     if rng.chance(60) {
         rng.pick(&[TEXT, DATA, BSS])
