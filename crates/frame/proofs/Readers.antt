@@ -60,6 +60,10 @@ section-same f base e =
       same-field (sectionLayout f .vaddr) (i .vaddr) e,
       same-field (sectionLayout f .size) (i .size) e,
       same-field (sectionLayout f .scnptr) (i .scnptr) e,
+      same-field (sectionLayout f .relptr) (i .relptr) e,
+      same-field (sectionLayout f .lnnoptr) (i .lnnoptr) e,
+      same-field (sectionLayout f .nreloc) (i .nreloc) e,
+      same-field (sectionLayout f .nlnno) (i .nlnno) e,
       same-field (sectionLayout f .flags) (i .flags) e,
     ) refl
 
