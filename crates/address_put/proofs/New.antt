@@ -20,7 +20,6 @@ use Rattle.format.specs.declared.RelocationLayout.{RelocationLayout}
 use Rattle.format.specs.Layout.{headerLayout, sectionLayout, auxLayout, relocationLayout, addressLimit}
 use Rattle.format.proofs.Layouts.{FieldInside, AuxInside, aux-inside}
 use Rattle.word.proofs.Test.{either}
-use Rattle.format.specs.Limit.{fileLimit}
 use Rattle.file_header.specs.Header.{sectionStart}
 use Rattle.header.specs.declared.Summary.{Summary}
 use Rattle.header.specs.Inside.{Inside}
@@ -118,10 +117,6 @@ pub put-still : (new : Followed → ℕ → ℕ) (file : List ℕ) (f : Followed
 unfolding putAddress
 put-still new file f at base xs t = rw t refl
 
-opthdr-start : (f : Format) (opthdr n len : ℕ) → sectionStart f opthdr n ≤ len → len ≤ fileLimit → opthdr ≤ fileLimit
-unfolding sectionStart
-opthdr-start f opthdr n len h s = omega arith
-
 -- ---- several in order
 
 module _ (new : Followed → ℕ → ℕ) (file : List ℕ) (fm : Format) where
@@ -189,9 +184,6 @@ entry-put new file l i xs ys {r} {e} {f} q w g h =
     ∙ ap (λ (t : RelocationLayout). putAddress new file (entryFollows (l .layout .parts) (entryIn file (l .layout .format) (l .tables) i)) (t .address) (l .tables .relocations .0 + i * t .length) xs) q
 
 -- a section header of an opened file
-pub opthdr-small : (file : List ℕ) (y : Summary) → Inside file y → y .opthdr ≤ fileLimit
-opthdr-small file y i = opthdr-start (y .format) (y .opthdr) (y .count) (length file) (i .headers) (i .small)
-
 pub header-room : (file : List ℕ) (y : Summary) (i : ℕ) {base : ℕ} → Inside file y → i < y .count → base ≡ sectionStart (y .format) (y .opthdr) i → base + sectionLayout (y .format) .length ≤ length file
 header-room file y i s h e = rw e (omega (arith, section-in-area (y .format) (y .opthdr) (y .count) i h, s .headers))
 

@@ -1,5 +1,6 @@
+use Rattle.written.proofs.Found.{opthdr-small}
 use native.Mathlib.Omega.{arith}
-use Rattle.address_put.proofs.New.{kind-in, opthdr-small, header-room, section-put}
+use Rattle.address_put.proofs.New.{kind-in, header-room, section-put}
 use borrow.Author.Needs.{needs}
 use Rattle.address_put.proofs.put_section.Statement.{statement}
 use Rattle.address_put.proofs.put_section.Tie as tie
