@@ -35,7 +35,7 @@ use Rattle.frame.specs.Change.{eachFrom}
 use Rattle.rebase.specs.Rebase.{newAddress}
 use Rattle.written.specs.Written.{putText, putData, putAux, putSection, putSymbol, putEntry, writtenBy, written}
 use Rattle.written.specs.Shared.{partRange, fileRanges, loaderRanges, isShared}
-use Rattle.written.specs.Write.{sharedCheck, outputRoom, writeCheck, writtenAt, outputAfter}
+use Rattle.written.specs.Write.{sharedCheck, outputRoom, rewriteCheck, writtenAt, outputAfter}
 use Rattle.written.proofs.Found.{found-opened, found-format, found-aux}
 use lib.IntN.{pos, _-ℤ_}
 use Rattle.history.specs.declared.Followed.the-variants as followed
@@ -117,15 +117,15 @@ module _ (file : List ℕ) (y : Summary) (l : Loadable) (p : Plan) (n : ℕ) {v 
 -- ---- by what the file is
 
 module _ (file : List ℕ) (p : Plan) where
-  pub check-refused : (x : Refusal) (n : ℕ) → answer.Refused x ≡ loadableAt file → verdict.Refused x ≡ writeCheck file p n
-  unfolding writeCheck relocatableAt relocatableBy planCheck noModule
+  pub check-refused : (x : Refusal) (n : ℕ) → answer.Refused x ≡ loadableAt file → verdict.Refused x ≡ rewriteCheck file p n
+  unfolding rewriteCheck relocatableAt relocatableBy planCheck noModule
   check-refused x n e = rw (← e) refl
 
-  pub check-found : (l : Loadable) (n : ℕ) {y : Summary} {v : Verdict} → loadableAt file ≡ answer.Found l → y ≡ openOf file .summary → v ≡ checkOf file y l p n → v ≡ writeCheck file p n
-  unfolding writeCheck relocatableAt relocatableBy checkOf
+  pub check-found : (l : Loadable) (n : ℕ) {y : Summary} {v : Verdict} → loadableAt file ≡ answer.Found l → y ≡ openOf file .summary → v ≡ checkOf file y l p n → v ≡ rewriteCheck file p n
+  unfolding rewriteCheck relocatableAt relocatableBy checkOf
   check-found l n e q h = rw e (h ∙ rw q refl)
 
-  pub output-refused : (out : List ℕ) {v : Verdict} → v ≡ writeCheck file p (length out) → isRefused v ≡ true → out ≡ outputAfter file p out
+  pub output-refused : (out : List ℕ) {v : Verdict} → v ≡ rewriteCheck file p (length out) → isRefused v ≡ true → out ≡ outputAfter file p out
   unfolding outputAfter
   output-refused out {v} e h = rw (← e) (by-verdict v h)
     where
@@ -133,7 +133,7 @@ module _ (file : List ℕ) (p : Plan) where
       by-verdict verdict.Accepted q = cc
       by-verdict (verdict.Refused x) q = refl
 
-  pub output-written : (l : Loadable) (out xs : List ℕ) {v : Verdict} → loadableAt file ≡ answer.Found l → v ≡ writeCheck file p (length out) → isRefused v ≡ false → xs ≡ written file l p → xs ≡ outputAfter file p out
+  pub output-written : (l : Loadable) (out xs : List ℕ) {v : Verdict} → loadableAt file ≡ answer.Found l → v ≡ rewriteCheck file p (length out) → isRefused v ≡ false → xs ≡ written file l p → xs ≡ outputAfter file p out
   unfolding outputAfter writtenAt
   output-written l out xs {v} e q h w = rw (← q, e) (by-verdict v h)
     where

@@ -10,7 +10,7 @@ ghost use Rattle.displacement.specs.Reach.{planOf};
 ghost use Rattle.offset.specs.Report.{reportHead};
 ghost use Rattle.written.specs.Written.{written};
 ghost use Rattle.written.specs.Shared.{isShared};
-ghost use Rattle.written.specs.Write.{writeCheck, outputAfter};
+ghost use Rattle.written.specs.Write.{rewriteCheck, outputAfter};
 ghost use Rattle.rewrite.specs.InPlace.{placeEntry, placeAll};
 ghost use Rattle.rewrite.specs.Ready.{Ready, checkOf};
 use displacement::Addresses;
@@ -106,8 +106,8 @@ fn check_write(
 
 // Writes the module into `output` for a plan. A refusal writes nothing.
 pub fn write_module(file: &[u8], at: Addresses, imports: &[u64], output: &mut [u8]) -> Verdict
-    ensures cause { λ r. ⌜ r ≡ writeCheck (now (file .entry)) (planOf at (now (imports .entry))) (length (now (output .entry))) ⌝ }
-    ensures report { λ r. ⌜ reportHead (now (file .entry)) r ≡ reportHead (now (file .entry)) (writeCheck (now (file .entry)) (planOf at (now (imports .entry))) (length (now (output .entry)))) ⌝ }
+    ensures cause { λ r. ⌜ r ≡ rewriteCheck (now (file .entry)) (planOf at (now (imports .entry))) (length (now (output .entry))) ⌝ }
+    ensures report { λ r. ⌜ reportHead (now (file .entry)) r ≡ reportHead (now (file .entry)) (rewriteCheck (now (file .entry)) (planOf at (now (imports .entry))) (length (now (output .entry)))) ⌝ }
     ensures output { λ _. ⌜ now (output .exit) ≡ outputAfter (now (file .entry)) (planOf at (now (imports .entry))) (now (output .entry)) ⌝ }
 {
     let a = loadable::module_of(file);

@@ -28,8 +28,8 @@ unfoldable pub outputRoom : ℕ → ℕ → Verdict
 outputRoom len n = refuseIf (not (eqb n len)) (refusal.Room FileBuffer)
 
 -- the module's refusals, ROOM 2, PLAN, SHARED, ROOM 0
-unfoldable pub writeCheck : List ℕ → Plan → ℕ → Verdict
-writeCheck file p n = planCheck (relocatableAt file) p orElse sharedCheck file (loadableAt file) orElse outputRoom (length file) n
+unfoldable pub rewriteCheck : List ℕ → Plan → ℕ → Verdict
+rewriteCheck file p n = planCheck (relocatableAt file) p orElse sharedCheck file (loadableAt file) orElse outputRoom (length file) n
 
 abbrev pub writtenBy : List ℕ → Plan → LoadableAnswer → List ℕ
 writtenBy file p (Found l) = written file l p
@@ -41,4 +41,4 @@ writtenAt file p = writtenBy file p (loadableAt file)
 
 -- what the output holds afterwards: a refusal changes nothing
 unfoldable pub outputAfter : List ℕ → Plan → List ℕ → List ℕ
-outputAfter file p out = ifAccepted (writeCheck file p (length out)) (writtenAt file p) out
+outputAfter file p out = ifAccepted (rewriteCheck file p (length out)) (writtenAt file p) out
