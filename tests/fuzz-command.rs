@@ -62,8 +62,8 @@ impl Commands {
 
     fn prepare(&self) {
         fs::write("fixed", FIXED).unwrap();
-        assert_eq!(self.run("plan fixed -o fixed.sheet"), 0);
-        assert_eq!(self.run("plan fixed --text 1000 --data 80000 -o fixed.other"), 0);
+        assert_eq!(self.run("plan fixed --recorded -o fixed.sheet"), 0);
+        assert_eq!(self.run("plan fixed --text 1000 --data 80000 --recorded -o fixed.other"), 0);
         assert_eq!(self.run("build fixed fixed.sheet -o fixed.text fixed.data"), 0);
         assert_eq!(self.run("records fixed fixed.sheet -o fixed.srec"), 0);
     }
@@ -77,10 +77,12 @@ impl Commands {
             assert_eq!(self.run(&format!("{listing} m --json")), status, "{listing}");
             module = status;
         }
+        self.lines();
         for address in ["text", "data", "@3", "puts"] {
             let status = self.run(&format!("relocations m --follows {address}"));
             assert!(status == module || module == 0 && status == 2, "{address}: status {status}");
         }
+        self.salvage(input);
         self.as_sheet();
         self.as_imports();
         self.as_image(input);
@@ -95,9 +97,41 @@ impl Commands {
         assert!(!names.into_iter().any(|name| name.to_string_lossy().ends_with(".tmp")));
     }
 
+    /// Line tables: one address is found or not, of several each has a row.
+    fn lines(&self) {
+        let listed = self.run("lines m");
+        assert!(listed <= 1);
+        assert_eq!(self.run("lines m --json"), listed);
+        let found = self.run("line m 10000100 --json");
+        assert!(found <= 1);
+        assert!(self.run("line m 0 10000100 ffffffffffffffff") <= 1);
+        let named = self.run("line m 10000100 --section 1");
+        assert!(named <= 1);
+        // A table that is refused has no line.
+        assert!(self.run("lines m --section 1") <= named);
+        assert!(self.run("line m 10000100 --sheet fixed.sheet") <= 1);
+    }
+
+    /// A file that opens is salvaged, or its parts share bytes; of the copy every symbol is listed, and nothing is left to mend.
+    fn salvage(&self, input: &[u8]) {
+        let status = self.run("salvage m -o copy --report report --force");
+        assert!(status <= 1);
+        assert_eq!(self.run("salvage m -o copy --force --json"), status);
+        let opens = xcoff::open(input).is_ok();
+        assert!(status == 1 || opens);
+        if status == 1 {
+            assert!(!opens || !xcoff::shared_with_symbols(input).is_empty());
+            return;
+        }
+        assert_eq!(self.run("symbols copy"), 0);
+        assert_eq!(self.run("salvage copy -o again --report report --force"), 0);
+        assert_eq!(fs::read("copy").unwrap(), fs::read("again").unwrap());
+        assert!(fs::read("report").unwrap().is_empty());
+    }
+
     /// The input as a file of addresses, which is taken apart before anything is judged.
     fn as_imports(&self) {
-        assert!(self.run("plan fixed --imports m -o other.sheet") <= 2);
+        assert!(self.run("plan fixed --imports m --recorded -o other.sheet") <= 2);
     }
 
     fn as_sheet(&self) {
@@ -139,15 +173,15 @@ impl Commands {
     /// A module: planned, built, moved there and back.
     fn images(&self, input: &[u8]) {
         let hash = input.iter().fold(0xcbf29ce484222325u64, |h, &b| (h ^ b as u64).wrapping_mul(0x100000001b3));
-        assert_eq!(self.run("plan m -o s"), 0);
+        assert_eq!(self.run("plan m --recorded -o s"), 0);
         assert_eq!(self.run("sheet s m"), 0);
         assert_eq!(self.run("build m s -o t d"), 0);
         assert_eq!(self.run("check m s t d"), 0);
         self.records();
-        assert!(self.run("plan m --import @3=ffffffff --text 0 -o s2") <= 2);
+        assert!(self.run("plan m --import @3=ffffffff --text 0 --recorded -o s2") <= 2);
         let shift = if hash & 1 == 0 { 36 } else { hash >> 1 & 31 };
         let planned = self.run(&format!(
-            "plan m --text {:x} --data {:x} -o s2",
+            "plan m --text {:x} --data {:x} --recorded -o s2",
             hash >> shift,
             hash.rotate_left(32) >> shift
         ));

@@ -1,7 +1,7 @@
 /*
  * Calls every function of include/xcoff.h on any bytes and aborts where an answer breaks a promise of the header.
  *
- * The file, the lists, the rows, the images and the records lie at the very end of pages that are followed by a page that
+ * The file, the lists, the rows, the images, the records, the copies and the reports lie at the very end of pages that are followed by a page that
  * cannot be touched; then at the very start of pages after such a page. So a read or write outside them is a fault, although the
  * library is compiled without bounds checks.
  *
@@ -56,7 +56,7 @@ static void refusal(const void *answer, size_t size)
     uint64_t head[3];
     size_t i;
     memcpy(head, answer, sizeof head);
-    PROMISE(head[0] <= 24 || head[0] == 30);
+    PROMISE(head[0] <= 24 || (head[0] >= 29 && head[0] <= 32));
     PROMISE(head[0] == 0 ? head[1] == 0 && head[2] == 0 : head[2] <= length);
     for (i = sizeof head; head[0] != 0 && i < size; i++)
         PROMISE(((const uint8_t *)answer)[i] == 0);
@@ -93,12 +93,12 @@ static void *lend(area a, size_t n)
     return at_the_end ? a.start + ROOM - n : a.start;
 }
 
-static area file_area, text_area, data_area, text2_area, data2_area, list_area, list2_area, rows_area, sheet_area, script_area, records_area;
+static area file_area, text_area, data_area, text2_area, data2_area, list_area, list2_area, rows_area, sheet_area, script_area, records_area, copy_area, report_area;
 
 static void map_all(void)
 {
     area *all[] = {&file_area, &text_area, &data_area, &text2_area, &data2_area, &list_area, &list2_area, &rows_area,
-                   &sheet_area, &script_area, &records_area};
+                   &sheet_area, &script_area, &records_area, &copy_area, &report_area};
     size_t i;
     for (i = 0; i < sizeof all / sizeof all[0]; i++)
         *all[i] = map();
@@ -313,6 +313,82 @@ static void symbols(xcoff_open_answer o)
         xcoff_symbol_answer y = xcoff_symbol(file, length, w.end);
         PROMISE(REFUSED_AS(y, w.cause));
     }
+}
+
+/* The line that a plain search of a table finds, or the refusal. */
+static xcoff_line_answer line_among(const xcoff_line_row *rows, uint64_t n, uint64_t address)
+{
+    xcoff_line_answer found = {31, 0, 0, 0, 0, 0, 0}, group = {32, 0, 0, 0, 0, 0, 0};
+    uint64_t i, symbol = 0;
+    for (i = 0; i < n; i++) {
+        if (rows[i].function) {
+            symbol = rows[i].value;
+            group.number = 0;
+        } else if (group.number != 0)
+            return group;
+        else if (rows[i].value <= address && (found.number != 0 || rows[i].value > found.address)) {
+            xcoff_line_answer better = {0, 0, 0, i, rows[i].value, rows[i].line, symbol};
+            found = better;
+        }
+    }
+    return found;
+}
+
+/* Lines of a section: the table into exactly as many places, and what is found in it. */
+static void lines_of(xcoff_open_answer o, uint64_t n)
+{
+    xcoff_section_answer s = xcoff_section(file, length, n);
+    xcoff_count_answer c = xcoff_line_count(file, length, n);
+    const xcoff_line_row *rows;
+    uint64_t *numbers;
+    uint64_t i;
+    int by;
+    ANSWER(c);
+    if (o.number != 0)
+        PROMISE(REFUSED_AS(c, o));
+    else if (s.number != 0 || s.flag != 0x20)
+        PROMISE(REFUSED(c, 8, n, 0));
+    else
+        PROMISE(c.number == 0 || REFUSED(c, 5, n, header_at(n)));
+    PROMISE(c.count <= length / (c.number == 0 && o.bits == 64 ? 12 : 6));
+    for (by = -1; by <= 1; by += 2) {
+        size_t room = 3 * c.count + (by < 0 && c.count == 0 ? 0 : by);
+        xcoff_verdict v;
+        if (room == 3 * c.count)
+            continue;
+        numbers = lend(rows_area, 8 * room);
+        fill(numbers, 8 * room);
+        v = xcoff_line_table(file, length, n, numbers, room);
+        ANSWER(v);
+        PROMISE(c.number != 0 ? REFUSED_AS(v, c) : REFUSED(v, 20, 0, 0));
+        untouched(numbers, 8 * room);
+    }
+    numbers = lend(rows_area, 8 * 3 * c.count);
+    if (c.number == 0)
+        PROMISE(xcoff_line_table(file, length, n, numbers, 3 * c.count).number == 0);
+    note(numbers, 8 * 3 * c.count);
+    rows = (const void *)numbers;
+    for (i = 0; i < c.count; i++)
+        PROMISE(rows[i].function == (uint64_t)(rows[i].line == 0) && rows[i].line <= UINT32_MAX);
+    for (i = 0; i < 6; i++) {
+        uint64_t address = i == 0 ? s.paddr : i == 1 ? s.paddr + s.size : i == 2 ? UINT64_MAX : any_number();
+        xcoff_line_answer l, expected;
+        if (i > 3 && c.count > 0)
+            address = rows[random_number() % c.count].value - (i == 5);
+        l = xcoff_find_line(file, length, n, address);
+        ANSWER(l);
+        expected = line_among(rows, c.count, address);
+        PROMISE(c.number != 0 ? REFUSED_AS(l, c) : SAME(l, expected));
+    }
+}
+
+static void lines(xcoff_open_answer o)
+{
+    uint64_t n;
+    step = "lines";
+    for (n = 0; n <= o.sections + 1; n++)
+        lines_of(o, n);
+    lines_of(o, any_number());
 }
 
 /* The rows of a table of a module into exactly as many places; a place more or less is refused. */
@@ -945,6 +1021,100 @@ static void input_as_calls(xcoff_module_answer m)
     note(data, dl);
 }
 
+/* ---- salvage */
+
+/* A field that a change may set: its place in the file, its length, and which bits of its first byte. */
+typedef struct field {
+    size_t at, bytes;
+    uint8_t bits;
+} field;
+
+static field changed(uint64_t index, uint64_t number)
+{
+    size_t entry = symbol_at(index);
+    field f = {entry + 14, 1, 0x70};
+    switch (number) {
+    case 9: f.at = entry + 17, f.bits = 0xFF; break;
+    case 10: f.at = entry + (is_64() ? 8 : 4), f.bytes = 4, f.bits = 0xFF; break;
+    case 11: f.at = entry + 12, f.bytes = 2, f.bits = 0xFF; break;
+    default: PROMISE(number == 30);
+    }
+    return f;
+}
+
+static uint64_t word_of(const uint8_t *bytes)
+{
+    return (uint64_t)bytes[0] << 24 | (uint64_t)bytes[1] << 16 | (uint64_t)bytes[2] << 8 | bytes[3];
+}
+
+/* Puts the file's own bits back into the fields of a report; each was changed, and they come in order. */
+static void unmend(uint8_t *copy, const uint8_t *report, uint64_t count)
+{
+    uint64_t i, before = 0;
+    for (i = 0; i < count; i++, report += 8) {
+        static const uint64_t checks[4] = {9, 11, 10, 30};
+        uint64_t index = word_of(report), number = word_of(report + 4), place = 0;
+        field f = changed(index, number);
+        size_t k;
+        int differs = 0;
+        while (place < 3 && checks[place] != number)
+            place++;
+        PROMISE(i == 0 || 4 * index + place > before);
+        before = 4 * index + place;
+        for (k = 0; k < f.bytes; k++) {
+            uint8_t bits = (uint8_t)((file[f.at + k] ^ copy[f.at + k]) & f.bits);
+            differs |= bits;
+            copy[f.at + k] ^= bits;
+        }
+        PROMISE(differs);
+    }
+}
+
+/* The copy walks to the table's end, salvages as it is, and is the file but for the fields that the report tells of. */
+static void copied(xcoff_open_answer o, xcoff_walk_answer t, uint64_t count)
+{
+    uint8_t *copy = lend(copy_area, length), *report = lend(report_area, 8 * count), *again = lend(text_area, length);
+    xcoff_count_answer c = xcoff_salvage(file, length, copy, length, report, 8 * count);
+    xcoff_open_answer other;
+    xcoff_walk_answer w;
+    PROMISE(c.number == 0 && c.count == count && (count > 0) == (t.cause.number != 0));
+    PROMISE(count == 0 || (word_of(report) == t.end && word_of(report + 4) == t.cause.number));
+    note(copy, length);
+    note(report, 8 * count);
+    other = xcoff_open(copy, length);
+    PROMISE(SAME(other, o));
+    w = xcoff_walk(copy, length);
+    PROMISE(w.number == 0 && w.cause.number == 0 && w.end == o.symbols);
+    c = xcoff_salvage(copy, length, again, length, NULL, 0);
+    PROMISE(c.number == 0 && c.count == 0 && memcmp(again, copy, length) == 0);
+    unmend(copy, report, count);
+    PROMISE(memcmp(copy, file, length) == 0);
+}
+
+static void salvage(xcoff_open_answer o)
+{
+    xcoff_walk_answer t = xcoff_walk(file, length);
+    xcoff_count_answer n = xcoff_salvage_count(file, length), c;
+    uint8_t *copy = lend(copy_area, length + 1), *report = lend(report_area, 40);
+    size_t room = n.number == 0 && n.count > 0 ? (8 * n.count > 40 ? 40 : 8 * n.count - 1) : 40;
+    step = "salvage";
+    ANSWER(n);
+    PROMISE(o.number != 0 ? REFUSED_AS(n, o) : n.number == 0 || (REFUSED(n, 29, 0, 0) && o.symbols > 0));
+    fill(copy, length + 1);
+    fill(report, 40);
+    c = xcoff_salvage(file, length, copy, length + 1, report, 40);
+    PROMISE(n.number != 0 ? REFUSED_AS(c, n) : REFUSED(c, 20, 0, 0));
+    if (n.number != 0 || n.count > 0) {
+        c = xcoff_salvage(file, length, copy, length, report, room);
+        PROMISE(n.number != 0 ? REFUSED_AS(c, n) : REFUSED(c, 3, 5, 0));
+        PROMISE(c.count == 0);
+    }
+    untouched(copy, length + 1);
+    untouched(report, 40);
+    if (n.number == 0)
+        copied(o, t, n.count);
+}
+
 static void nothing(void)
 {
     xcoff_open_answer o = xcoff_open(NULL, 0);
@@ -953,9 +1123,13 @@ static void nothing(void)
     xcoff_length_answer l = xcoff_records_length(NULL, 0, 0, 0, NULL, 0);
     xcoff_verdict w = xcoff_write_records(NULL, 0, 0, 0, NULL, 0, NULL, 0, NULL, 0, NULL, 0);
     xcoff_verdict r = xcoff_read_records(NULL, 0, 0, 0, NULL, 0, NULL, 0, NULL, 0, NULL, 0);
+    xcoff_line_answer f = xcoff_find_line(NULL, 0, 1, 0);
+    xcoff_verdict b = xcoff_line_table(NULL, 0, 1, NULL, 0);
     step = "nothing";
     PROMISE(REFUSED(o, 1, 0, 0) && REFUSED(t, 1, 0, 0) && REFUSED(v, 1, 0, 0));
     PROMISE(REFUSED(l, 1, 0, 0) && REFUSED(w, 1, 0, 0) && REFUSED(r, 1, 0, 0));
+    PROMISE(REFUSED(f, 1, 0, 0) && REFUSED(b, 1, 0, 0));
+    PROMISE(xcoff_salvage(NULL, 0, NULL, 0, NULL, 0).number == 1);
 }
 
 static uint64_t run(const uint8_t *input, size_t n)
@@ -975,10 +1149,12 @@ static uint64_t run(const uint8_t *input, size_t n)
         nothing();
         o = headers();
         symbols(o);
+        lines(o);
         m = module(o);
         tables(m);
         images(m);
         records(m);
+        salvage(o);
         sheets();
         if (m.image < HEAVY)
             input_as_calls(m);

@@ -11,6 +11,7 @@ mod object_rows;
 mod processes;
 mod reference_rows;
 mod report;
+mod salvage_rows;
 
 use report::Report;
 use std::path::PathBuf;
@@ -53,6 +54,7 @@ pub fn main(object: Option<Object>) {
         exit(3);
     }
     growth::rows(&mut report);
+    salvage_rows::rows(&mut report);
 }
 
 fn options() -> Option<Options> {

@@ -15,7 +15,11 @@ const TIME: Duration = Duration::from_secs(2);
 /// A build of nearly 16 MiB against the raw bytes copied.
 fn build(format: Format) {
     let mut state = Build::new(format, 16_000_000, 0);
-    let [judge, whole, copy] = by_turns(TIME, &mut state, [&Build::judge, &Build::whole, &Build::copy]);
+    let [judge, whole, copy] = by_turns(
+        TIME,
+        &mut state,
+        [&Build::judge, &Build::whole, &Build::copy],
+    );
     println!(
         "{format:?} build of 16 MB: {:.0} us, judging {:.1} us, copy {:.0} us: {:.2} whole, {:.2} without judging",
         whole / 1e3,
@@ -32,7 +36,8 @@ fn moved(format: Format) {
     state.whole();
     state.plain();
     let same = state.same();
-    let [judge, whole, plain] = by_turns(TIME, &mut state, [&Move::judge, &Move::whole, &Move::plain]);
+    let [judge, whole, plain] =
+        by_turns(TIME, &mut state, [&Move::judge, &Move::whole, &Move::plain]);
     println!(
         "{format:?} move of {ENTRIES} entries: {:.1} us, judging {:.1} us, plain loop {:.1} us: {:.2} without judging; same bytes: {same}",
         whole / 1e3,
@@ -45,7 +50,10 @@ fn moved(format: Format) {
 /// 16 MiB of images as S-records against the plain loops, and against a copy of the record text.
 fn records() {
     let t = measure(TIME);
-    for (what, ours, plain) in [("written", t.write, t.plain_write), ("read", t.read, t.plain_read)] {
+    for (what, ours, plain) in [
+        ("written", t.write, t.plain_write),
+        ("read", t.read, t.plain_read),
+    ] {
         println!(
             "16 MiB of images as S-records {what}: {:.2} ms, plain loop {:.2} ms: {:.2}; memcpy of the text {:.2} ms: {:.2}",
             ours / 1e6,

@@ -23,7 +23,11 @@ fn main() {
                     black_box(xcoff::module(black_box(file)).unwrap());
                 };
                 let [time] = by_turns(TIME, &mut file, [&judge]);
-                println!("{format:?} {spread:12} {:10} {:8.1} us", order.word(), time / 1e3);
+                println!(
+                    "{format:?} {spread:12} {:10} {:8.1} us",
+                    order.word(),
+                    time / 1e3
+                );
             }
         }
     }

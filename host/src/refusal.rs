@@ -5,7 +5,7 @@ use std::fmt;
 /// A rule's number and the item it names, 0 where it names none. The offset is that of the first byte, in the file, of the
 /// section header or table entry that the item names, of the string table for STRINGS, of the loader section for LOADER
 /// and a module's LIMIT 2 and 3, and 0 for every other. [`places`](crate::places) reads what stands there.
-#[derive(Clone, Copy, Debug, PartialEq, Eq)]
+#[derive(Clone, Copy, PartialEq, Eq)]
 pub struct Refusal {
     pub number: u64,
     pub item: u64,
@@ -40,7 +40,10 @@ impl Refusal {
             22 => "RECORD",
             23 => "FORM",
             24 => "CLASH",
+            29 => "SHARED",
             30 => "VISIBILITY",
+            31 => "NOLINE",
+            32 => "GROUP",
             _ => "UNKNOWN",
         }
     }
@@ -54,7 +57,7 @@ impl Refusal {
             3 => limit(i).into(),
             4 => format!("the flags of section {i} are not allowed"),
             5 if i == 0 => "the symbol table or string table passes the file's end".into(),
-            5 => format!("the raw data of section {i} passes the file's end"),
+            5 => format!("the raw data or line table of section {i} passes the file's end, or the table's overflow header is not there exactly once"),
             6 => format!("the addresses of section {i} differ or pass the address space, or it is a bss below the end of data"),
             7 => "the string table has length 1, 2 or 3".into(),
             8 => format!("there is no number {i} of what was asked for"),
@@ -74,7 +77,10 @@ impl Refusal {
             22 => format!("line {i} of the record text is not the line that is written there, or is missing or one too many"),
             23 => "S-records are for XCOFF32 modules only".into(),
             24 => "the text and data images share an address".into(),
+            29 => "parts of the file that must be apart share bytes".into(),
             30 => format!("the type of symbol {i} claims a visibility of 5 to 7, which means nothing"),
+            31 => "no entry of the line table has an address at or below the one asked for".into(),
+            32 => "the line table has a line before any function".into(),
             _ => "no such number".into(),
         }
     }
@@ -94,6 +100,13 @@ impl fmt::Display for Refusal {
     }
 }
 
+/// The same words, so that an `unwrap` or an assertion tells what is refused.
+impl fmt::Debug for Refusal {
+    fn fmt(&self, f: &mut fmt::Formatter<'_>) -> fmt::Result {
+        write!(f, "{self}")
+    }
+}
+
 impl std::error::Error for Refusal {}
 
 fn limit(item: u64) -> &'static str {
@@ -102,7 +115,8 @@ fn limit(item: u64) -> &'static str {
         1 => "there are more than 32 sections",
         2 => "there are more than 70,000 loader symbols, or addresses in a sheet, in one that starts with 0002 more than 4,096",
         3 => "there are more than 100,000 relocation entries",
-        _ => "the data image is longer than 16,777,216 bytes",
+        4 => "the data image is longer than 16,777,216 bytes",
+        _ => "the report has fewer than 8 bytes for each change",
     }
 }
 
@@ -137,7 +151,7 @@ fn plan(item: u64) -> String {
 
 fn room(item: u64) -> &'static str {
     match item {
-        0 => "text image, sheet or record text",
+        0 => "text image, sheet, record text or whole file",
         1 => "data image",
         _ => "list of addresses",
     }

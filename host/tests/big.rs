@@ -156,9 +156,9 @@ fn it_is_planned_built_moved_and_checked() {
     let words = |line: &str| folder.done(&line.split(' ').collect::<Vec<_>>());
     assert_eq!(
         words("plan m --text 10000 --data 80000 --imports given -o one"),
-        "wrote one (560024 bytes): text 00010000, data 00080000, 69999 of 69999 imports given; entry none, TOC none\n"
+        "wrote one (560024 bytes): text 00010000-0001001f, data 00080000-000e2a7f, 69999 of 69999 imports given; entry none, TOC none\n"
     );
-    words("plan m --text 40000 --data c0000 -o two");
+    words("plan m --text 40000 --data c0000 --recorded -o two");
     let sheet = folder.read("one");
     for index in [3, 4_098, 4_099, 65_538, 65_539, 70_002] {
         assert_eq!(

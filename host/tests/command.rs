@@ -23,21 +23,21 @@ fn recorded(file: &[u8]) -> Plan {
 fn a_plan_has_recorded_addresses_where_none_is_given() {
     let folder = Folder::new();
     folder.copy("exe-imports-32");
-    let out = folder.done(&["plan", "exe-imports-32", "-o", "recorded"]);
+    let out = folder.done(&["plan", "exe-imports-32", "--recorded", "-o", "recorded"]);
     assert_eq!(
         out,
-        "wrote recorded (96 bytes): text 10000100, data 200001a0, 0 of 6 imports given; entry 200001d0, TOC 200001e0\n"
+        "wrote recorded (96 bytes): text 10000100-1000019f, data 200001a0-2000023f, 0 of 6 imports given, 6 as recorded; entry 200001d0, TOC 200001e0\n"
     );
     let list = [0, 0, 0, 0x2000_01d0, 0, 0, 0, 0, 0];
     assert_eq!(
         folder.read("recorded"),
         sheet(0x1000_0100, 0x2000_01a0, &list)
     );
-    let words = "plan exe-imports-32 --import errno=AbC --text 0x30000000 --import @9=7 --data=40000000 -o given";
+    let words = "plan exe-imports-32 --recorded --import errno=AbC --text 0x30000000 --import @9=7 --data=40000000 -o given";
     let out = folder.done(&words.split(' ').collect::<Vec<_>>());
     assert_eq!(
         out,
-        "wrote given (96 bytes): text 30000000, data 40000000, 2 of 6 imports given; entry 40000030, TOC 40000040\n"
+        "wrote given (96 bytes): text 30000000-3000009f, data 40000000-4000009f, 2 of 6 imports given, 4 as recorded; entry 40000030, TOC 40000040\n"
     );
     let list = [0xabc, 0, 0, 0x2000_01d0, 0, 0, 7, 0, 0];
     assert_eq!(folder.read("given"), sheet(0x3000_0000, 0x4000_0000, &list));
@@ -48,7 +48,7 @@ text      data      addresses
 00001000  00002000          5
 
 index  address
-    3  00000001
+    3  00000000
     4  00000002
     5  00000003
     6  00000004
@@ -60,7 +60,7 @@ text      data      addresses
 00001000  00002000          5
 
 index  address   use       name
-    3  00000001  defined   __start
+    3  -         defined   __start
     4  00000002  import    table_of_words
     5  00000003  import    zeroed_area
     6  00000004  import    counter
@@ -71,7 +71,7 @@ index  address   use       name
 fn a_sheet_is_printed_alone_and_beside_its_module() {
     let folder = Folder::new();
     folder.copy("exe-dso-32");
-    folder.write("s", &sheet(0x1000, 0x2000, &[1, 2, 3, 4, 0xfedc]));
+    folder.write("s", &sheet(0x1000, 0x2000, &[0, 2, 3, 4, 0xfedc]));
     assert_eq!(folder.done(&["sheet", "s"]), ALONE);
     assert_eq!(folder.done(&["sheet", "s", "exe-dso-32"]), BESIDE);
     let json = folder.done(&["sheet", "s", "exe-dso-32", "--json"]);
@@ -125,7 +125,17 @@ fn linked(file: &[u8]) -> (Vec<u8>, Vec<u8>) {
 fn plan_for(folder: &Folder, file: &str, addresses: &Plan, out: &str) {
     let text = format!("{:x}", addresses.text);
     let data = format!("{:x}", addresses.data);
-    let mut args = vec!["plan", file, "--text", &text, "--data", &data, "-o", out];
+    let mut args = vec![
+        "plan",
+        file,
+        "--recorded",
+        "--text",
+        &text,
+        "--data",
+        &data,
+        "-o",
+        out,
+    ];
     let bytes = real(file);
     let rows = loader_symbol_table(&bytes).unwrap();
     let imports: Vec<String> = rows
@@ -147,10 +157,13 @@ fn built(file: &[u8]) -> String {
     };
     let address =
         |a: Option<Anchor>| a.map_or("none".into(), |a| format!("{:0digits$x}", a.address));
+    let range = |first: u64, size: u64| format!("{first:0digits$x}-{:0digits$x}", first + size - 1);
     format!(
-        "built text ({} bytes) and data ({} bytes): entry {}, TOC {}\n",
+        "built text ({} bytes) and data ({} bytes): text {}, data {}, entry {}, TOC {}\n",
         m.text.size,
         m.image,
+        range(m.text.address, m.text.size),
+        range(m.data.address, m.image),
         address(m.entry),
         address(m.toc)
     )
@@ -193,13 +206,14 @@ fn two_cards() -> Folder {
     folder.done(&[
         "plan",
         "exe-imports-32",
+        "--recorded",
         "--import",
         "errno=5000",
         "-o",
         "one.sheet",
     ]);
     let words =
-        "plan exe-imports-32 --text 20000000 --data 30000000 --import errno=6000 -o two.sheet";
+        "plan exe-imports-32 --recorded --text 20000000 --data 30000000 --import errno=6000 -o two.sheet";
     folder.done(&words.split(' ').collect::<Vec<_>>());
     folder.done(&["build", "exe-imports-32", "one.sheet", "-o", "text", "data"]);
     folder
@@ -216,7 +230,7 @@ fn a_move_replaces_the_images_in_place() {
     let out = folder.done(&step("one.sheet", "two.sheet"));
     assert_eq!(
         out,
-        "moved text (160 bytes) and data (160 bytes): entry 30000030, TOC 30000040\n"
+        "moved text (160 bytes) and data (160 bytes): text 20000000-2000009f, data 30000000-3000009f, entry 30000030, TOC 30000040\n"
     );
     folder.done(&["build", "exe-imports-32", "two.sheet", "-o", "t", "d"]);
     assert_eq!(
@@ -246,7 +260,7 @@ fn images_are_not_moved_twice() {
     folder.fails(
         &step("one.sheet", "two.sheet"),
         1,
-        "xcoff: text and data are already moved: their relocated fields are those of two.sheet; nothing is changed\n",
+        "xcoff: text and data: these images are for two.sheet, which was given as TO: they are already moved, or FROM and TO are exchanged; nothing is changed\n",
     );
     assert_eq!((folder.read("text"), folder.read("data")), moved);
 
@@ -260,15 +274,16 @@ fn images_are_not_moved_twice() {
 
 const NOT_FROM_ONE: &str = "\
 xcoff: text and data: 10 of 20 relocated fields are not those of one.sheet; nothing is changed
-  address   section  offset  found     expected
-  200001a0  data          0  00006000  00005000
-  200001a4  data          4  00006004  00005004
-  200001a8  data          8  00005ffc  00004ffc
-  200001c0  data         32  30000060  20000200
-  200001c4  data         36  30000000  200001a0
-  200001c8  data         40  20000000  10000100
-  200001d0  data         48  20000000  10000100
-  200001d4  data         52  30000040  200001e0
+xcoff: they are for neither one.sheet nor three.sheet; xcoff check --or finds the sheet that images are for
+  address   image  offset  found     expected
+  200001a0  data        0  00006000  00005000
+  200001a4  data        4  00006004  00005004
+  200001a8  data        8  00005ffc  00004ffc
+  200001c0  data       32  30000060  20000200
+  200001c4  data       36  30000000  200001a0
+  200001c8  data       40  20000000  10000100
+  200001d0  data       48  20000000  10000100
+  200001d4  data       52  30000040  200001e0
   and 2 more
 ";
 
@@ -277,7 +292,7 @@ fn images_are_not_moved_from_a_plan_they_are_not_for() {
     let folder = two_cards();
     folder.done(&step("one.sheet", "two.sheet"));
     let moved = (folder.read("text"), folder.read("data"));
-    let words = "plan exe-imports-32 --text 20000100 --data 300001a0 -o three.sheet";
+    let words = "plan exe-imports-32 --recorded --text 20000100 --data 300001a0 -o three.sheet";
     folder.done(&words.split(' ').collect::<Vec<_>>());
     let wrong = step("one.sheet", "three.sheet");
     folder.fails(&wrong, 1, NOT_FROM_ONE);
@@ -298,8 +313,9 @@ fn one_wrong_field_stops_a_move() {
     folder.write("data", &data);
     let expected = "\
 xcoff: text and data: 1 of 20 relocated fields are not those of one.sheet; nothing is changed
-  address   section  offset  found     expected
-  200001d0  data         48  10000101  10000100
+xcoff: they are for neither one.sheet nor two.sheet; xcoff check --or finds the sheet that images are for
+  address   image  offset  found     expected
+  200001d0  data       48  10000101  10000100
 ";
     folder.fails(&step("one.sheet", "two.sheet"), 1, expected);
     assert_eq!(folder.read("data"), data);
@@ -314,12 +330,13 @@ fn other_bytes_are_kept_with_a_warning() {
     data[158] = 1;
     folder.write("text", &text);
     folder.write("data", &data);
-    let ran = folder.run(&step("one.sheet", "two.sheet"));
+    let keep = [&step("one.sheet", "two.sheet")[..], &["--keep-changes"]].concat();
+    let ran = folder.run(&keep);
     assert_eq!(ran.status, Some(0));
     assert_eq!(
         ran.err,
-        "xcoff: warning: text: 1 byte outside the relocated fields is not the module's, the first at 10000110 (offset 16); kept as found\n\
-         xcoff: warning: data: 2 bytes outside the relocated fields are not the module's, the first at 2000023e (offset 158); kept as found\n"
+        "xcoff: warning: text: 1 byte outside the relocated fields is not the module's: 1 at 10000110 (offset 16); kept as found\n\
+         xcoff: warning: data: 2 bytes outside the relocated fields are not the module's: 2 at 2000023e (offset 158); kept as found\n"
     );
     assert_eq!(folder.read("text")[16], text[16]);
     assert_eq!(folder.read("data")[158..], [1, 1]);
@@ -367,7 +384,7 @@ fn a_check_says_equal_and_exits_with_0() {
     let out = folder.done(&["check", "exe-imports-32", "one.sheet", "text", "data"]);
     assert_eq!(
         out,
-        "text and data are the images of exe-imports-32 for one.sheet\n"
+        "text and data are the images of exe-imports-32 for one.sheet (text 10000100-1000019f, data 200001a0-2000023f)\n"
     );
     // Nothing is written, so one file may stand for both images: what it holds decides.
     let ran = folder.run(&["check", "exe-imports-32", "one.sheet", "text", "text"]);
@@ -420,7 +437,7 @@ fn a_check_of_several_sheets_says_which() {
     let out = folder.done(&with(&["one.sheet"]));
     assert_eq!(
         out,
-        "text and data are the images of exe-imports-32 for one.sheet\n"
+        "text and data are the images of exe-imports-32 for one.sheet (text 10000100-1000019f, data 200001a0-2000023f)\n"
     );
     folder.write("same.sheet", &folder.read("one.sheet"));
     folder.write("short.sheet", &sheet(0, 0, &[1]));
@@ -433,7 +450,7 @@ fn a_check_of_several_sheets_says_which() {
     ]));
     assert_eq!(
         out,
-        "text and data are the images of exe-imports-32 for one.sheet and same.sheet\n"
+        "text and data are the images of exe-imports-32 for one.sheet (text 10000100-1000019f, data 200001a0-2000023f) and same.sheet (text 10000100-1000019f, data 200001a0-2000023f)\n"
     );
     let ran = folder.run(&with(&["short.sheet"]));
     assert_eq!((ran.status, ran.out.as_str()), (Some(1), ""));

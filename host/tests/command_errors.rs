@@ -19,7 +19,7 @@ const NOBODY: u32 = 65534;
 fn bench() -> Folder {
     let folder = Folder::new();
     folder.copy(M);
-    folder.done(&["plan", M, "-o", "sheet"]);
+    folder.done(&["plan", M, "--recorded", "-o", "sheet"]);
     folder.done(&["build", M, "sheet", "-o", "text", "data"]);
     folder.done(&["records", M, "sheet", "-o", "srec"]);
     folder
@@ -38,6 +38,8 @@ fn help_is_there_for_the_tool_and_each_command() {
         "module",
         "imports",
         "relocations",
+        "lines",
+        "line",
         "plan",
         "sheet",
         "build",
@@ -63,6 +65,11 @@ fn help_is_there_for_the_tool_and_each_command() {
     let version = format!("xcoff {}\n", env!("CARGO_PKG_VERSION"));
     assert_eq!(folder.done(&["--version"]), version);
     assert_eq!(folder.done(&["-V"]), version);
+    assert_eq!(folder.done(&["version"]), version);
+    assert_eq!(folder.done(&["help"]), help);
+    assert_eq!(folder.done(&["-h"]), help);
+    let plan = folder.done(&["plan", "--help"]);
+    assert_eq!(folder.done(&["help", "plan"]), plan);
 }
 
 // ---- usage
@@ -77,7 +84,18 @@ fn a_command_line_that_makes_no_sense_is_2() {
         2,
         &format!("xcoff: unknown command sing\n{hint}"),
     );
-    let hint = "usage: xcoff build FILE SHEET -o TEXT DATA; xcoff build --help says more\n";
+    for (word, meant) in [
+        ("biuld", "build"),
+        ("chek", "check"),
+        ("moves", "move"),
+        ("reloc", "relocations"),
+        ("--imports", "imports"),
+    ] {
+        let text = format!("xcoff: unknown command {word}; did you mean '{meant}'?\n{hint}");
+        folder.fails(&[word], 2, &text);
+        folder.fails(&["help", word], 2, &text);
+    }
+    let hint = "usage: xcoff build FILE SHEET -o TEXT DATA [--force] [--no-wait] [--json]; xcoff build --help says more\n";
     folder.fails(
         &["build", "m"],
         2,
@@ -89,11 +107,22 @@ fn a_command_line_that_makes_no_sense_is_2() {
     }
 }
 
-const NO_SENSE: [(&str, &str); 27] = [
+const NO_SENSE: [(&str, &str); 30] = [
     ("headers", "FILE is missing"),
-    ("headers a b", "b is one argument too many"),
     ("headers a --fast", "unknown option --fast"),
-    ("headers a \u{1b}[2J", "\\x1b[2J is one argument too many"),
+    (
+        "headers a --jsno",
+        "unknown option --jsno; did you mean --json?",
+    ),
+    (
+        "move m a b t d --keep",
+        "unknown option --keep; did you mean --keep-changes?",
+    ),
+    (
+        "build m s \u{1b}[2J -o t d",
+        "\\x1b[2J is one argument too many",
+    ),
+    ("plan m --from -o s", "--from needs OLD"),
     ("headers a --json --json", "--json is given twice"),
     ("headers a --json=1", "--json takes no value after ="),
     ("build m s", "-o TEXT DATA is missing"),
@@ -112,6 +141,10 @@ const NO_SENSE: [(&str, &str); 27] = [
     ("records m s", "-o RECORDS is missing"),
     ("records m s r -o r", "r is one argument too many"),
     ("records m s --images t -o r", "--images needs TEXT DATA"),
+    (
+        "records m s --keep-changes -o r",
+        "--keep-changes goes with --images TEXT DATA",
+    ),
     (
         "records m s --unchecked -o r",
         "--unchecked goes with --images TEXT DATA",
@@ -141,12 +174,12 @@ fn addresses_are_hexadecimal() {
         let shown = if bad.is_empty() { "''" } else { bad };
         let option = format!("--text={bad}");
         folder.misused(
-            &["plan", M, &option, "-o", "s"],
+            &["plan", M, "--recorded", &option, "-o", "s"],
             &format!("xcoff: plan: --text: {shown} is not a hexadecimal number of at most 64 bits"),
         );
         let import = format!("--import=errno={bad}");
         folder.misused(
-            &["plan", M, &import, "-o", "s"],
+            &["plan", M, "--recorded", &import, "-o", "s"],
             &format!("xcoff: plan: --import errno: {shown} is not a hexadecimal number of at most 64 bits"),
         );
     }
@@ -191,12 +224,20 @@ fn an_import_must_be_there_once_and_take_an_address() {
     for (import, text) in NO_IMPORT {
         let text = text.replace("KNOWN", known);
         folder.misused(
-            &["plan", M, "--import", import, "-o", "s"],
+            &["plan", M, "--recorded", "--import", import, "-o", "s"],
             &format!("xcoff: plan: --import {text}"),
         );
     }
     folder.misused(
-        &["plan", M, "--import=errno=1", "--import=@3=2", "-o", "s"],
+        &[
+            "plan",
+            M,
+            "--recorded",
+            "--import=errno=1",
+            "--import=@3=2",
+            "-o",
+            "s",
+        ],
         "xcoff: plan: --import @3: @3 is given twice",
     );
     assert!(!folder.path("s").exists());
@@ -212,11 +253,19 @@ fn an_ambiguous_import_is_chosen_by_its_index() {
     file[place..place + 8].copy_from_slice(b"malloc\0\0");
     folder.write("twice", &file);
     folder.misused(
-        &["plan", "twice", "--import", "malloc=1", "-o", "s"],
+        &["plan", "twice", "--recorded", "--import", "malloc=1", "-o", "s"],
         "xcoff: plan: --import malloc: 2 imports have this name: @4, @11; choose one by its index, as in --import @4=HEX",
     );
     assert!(!folder.path("s").exists());
-    folder.done(&["plan", "twice", "--import", "@11=1", "-o", "s"]);
+    folder.done(&[
+        "plan",
+        "twice",
+        "--recorded",
+        "--import",
+        "@11=1",
+        "-o",
+        "s",
+    ]);
     assert_eq!(folder.read("s")[24 + 8 * 8 + 7], 1);
 }
 
@@ -297,7 +346,7 @@ fn a_refused_file_is_named_with_its_number() {
     folder.write("empty", b"");
     let not_module =
         "xcoff: gas-main-32.o: refused 13 0 0: MODULE, the file is not a loadable module: \
-                      its auxiliary header is too short, as in an object file that is not linked\n";
+                      its auxiliary header is too short, as in an object file that is not linked\n  f_opthdr 28\n";
     for command in ["module", "imports", "relocations"] {
         folder.fails(&[command, "gas-main-32.o"], 1, not_module);
     }
@@ -329,8 +378,9 @@ fn a_refused_file_is_named_with_its_number() {
     );
     folder.fails(&["sheet", "sheet", "gas-main-32.o"], 1, not_module);
     let magic =
-        "xcoff: exe-oldmagic-64: refused 2 0 0: MAGIC, the file starts with neither 01DF nor 01F7\n";
-    let short = "xcoff: empty: refused 1 0 0: SHORT, the file ends before its headers do\n";
+        "xcoff: exe-oldmagic-64: refused 2 0 0: MAGIC, the file starts with neither 01DF nor 01F7\n  \
+         the file begins 01 ef 00 04 00 00 00 00 and has 2402 bytes: it looks like an XCOFF64 file of AIX 4.3, which is not read\n";
+    let short = "xcoff: empty: refused 1 0 0: SHORT, the file ends before its headers do\n  the file has 0 bytes\n";
     for command in ["headers", "symbols"] {
         folder.fails(&[command, "exe-oldmagic-64"], 1, magic);
         folder.fails(&[command, "empty"], 1, short);
@@ -438,7 +488,19 @@ fn what_stands_where_a_refusal_points_is_shown() {
             "images bad sheet srec -o new new2",
         ] {
             let words: Vec<&str> = words.split(' ').collect();
-            folder.fails(&words, 1, &text);
+            let ran = folder.run(&words);
+            assert_eq!(
+                (ran.status, ran.err.as_str()),
+                (Some(1), text.as_str()),
+                "{words:?}"
+            );
+            // For programs the refusal is an object too.
+            let object = match words.contains(&"--json") {
+                true => "{\"table\":\"refusal\",\"about\":\"bad\",\"number\":",
+                false => "",
+            };
+            assert!(ran.out.starts_with(object), "{}", ran.out);
+            assert_eq!(ran.out.is_empty(), object.is_empty(), "{}", ran.out);
         }
     }
     assert!(!folder.path("new").exists());
@@ -464,25 +526,26 @@ fn a_file_over_the_limit_is_judged_by_the_library() {
     folder.fails(
         &["sheet", "/dev/zero"],
         1,
-        &format!("xcoff: /dev/zero: {NO_SHEET}"),
+        &format!("xcoff: /dev/zero: {NO_SHEET}begins 00 00 00 00 00 00 00 00 and has more than 560024 bytes: it looks like no kind of file that is known here, perhaps an image\n"),
     );
     folder.fails(
         &["check", M, "sheet", "/dev/zero", "data"],
         1,
         "xcoff: /dev/zero (more than 16777216 bytes, where the text image of exe-imports-32 has 160): \
-         refused 20 0 0: ROOM, the text image, sheet or record text is not exactly as long as needed\n",
+         refused 20 0 0: ROOM, the text image, sheet, record text or whole file is not exactly as long as needed\n",
     );
 }
 
 const NO_SHEET: &str = "refused 21 0 0: SHEET, not a plan sheet: \
-                        it is short, starts with neither 00000002 nor 0002, or is not as long as its count says\n";
+                        it is short, starts with neither 00000002 nor 0002, or is not as long as its count says\n  the file ";
 const MANY: &str = "refused 3 2 0: LIMIT, there are more than 70,000 loader symbols, \
                     or addresses in a sheet, in one that starts with 0002 more than 4,096\n";
 const SHORT: &str = "short for exe-imports-32 (addresses: 8, loader symbols: 9): \
                      refused 20 2 0: ROOM, the list of addresses is not exactly as long as needed\n";
-const HIGH: &str = "high for exe-imports-32: refused 19 0 0: PLAN, \
+const HIGH: &str = "high for exe-imports-32 (text at ffffff61, 160 bytes): refused 19 0 0: PLAN, \
                     the text image at the plan's text address passes the end of the address space\n";
-const IMPORT: &str = "import for exe-imports-32: refused 19 4 0: PLAN, \
+const IMPORT: &str =
+    "import for exe-imports-32 (loader symbol 4 at 100000000): refused 19 4 0: PLAN, \
                       the plan's address of loader symbol 4 does not fit in 32 bits\n";
 
 #[test]
@@ -500,8 +563,23 @@ fn a_refused_sheet_or_plan_is_named_with_its_number() {
     folder.write("high", &sheet(0xffff_ff61, 0, &[0; 9]));
     folder.write("import", &sheet(0, 0, &[0, 1 << 32, 0, 0, 0, 0, 0, 0, 0]));
     let refused = |args: &[&str], text: &str| folder.fails(args, 1, &format!("xcoff: {text}"));
-    let no_sheets = ["cut", "three", "one"].map(|name| format!("{name}: {NO_SHEET}"));
-    let too_many = ["many", "more"].map(|name| format!("{name}: {MANY}"));
+    let no_sheets = [
+        ("cut", "has 95 bytes; its count at offset 20 is 9: 96 bytes are asked for"),
+        ("three", "begins 00 00 00 03 00 00 00 00 and has 24 bytes: it looks like no kind of file that is known here, perhaps an image"),
+        ("one", "begins 00 01 00 00 00 00 00 00 and has 24 bytes: it looks like no kind of file that is known here, perhaps an image"),
+    ]
+    .map(|(name, has)| format!("{name}: {NO_SHEET}{has}\n"));
+    let too_many = [
+        (
+            "many",
+            "has 20 bytes; its count at offset 18 is 4097: 32796 bytes are asked for",
+        ),
+        (
+            "more",
+            "has 24 bytes; its count at offset 20 is 70001: 560032 bytes are asked for",
+        ),
+    ]
+    .map(|(name, has)| format!("{name}: {MANY}  the file {has}\n"));
     let [cut, three, one] = no_sheets.each_ref();
     let [many, more] = too_many.each_ref();
     for text in [cut, three, one, many, more, SHORT, HIGH, IMPORT] {
@@ -520,8 +598,8 @@ fn a_refused_sheet_or_plan_is_named_with_its_number() {
     refused(&["move", M, "high", "short", "text", "data"], SHORT);
     refused(&["move", M, "high", "import", "text", "data"], HIGH);
     refused(
-        &["plan", M, "--data", "ffffff61", "-o", "t"],
-        "the plan for exe-imports-32: refused 19 1 0: PLAN, \
+        &["plan", M, "--recorded", "--data", "ffffff61", "-o", "t"],
+        "the plan for exe-imports-32 (data at ffffff61, 160 bytes): refused 19 1 0: PLAN, \
          the data image at the plan's data address passes the end of the address space\n",
     );
     assert!(!folder.path("t").exists() && !folder.path("d").exists());
@@ -535,7 +613,7 @@ fn images_of_the_wrong_length_are_refused() {
     let data = "xcoff: longer (161 bytes, where the data image of exe-imports-32 has 160): refused 20 1 0: ROOM, \
                 the data image is not exactly as long as needed\n";
     let text = "xcoff: none (0 bytes, where the text image of exe-imports-32 has 160): refused 20 0 0: ROOM, \
-                the text image, sheet or record text is not exactly as long as needed\n";
+                the text image, sheet, record text or whole file is not exactly as long as needed\n";
     for unchecked in [&[][..], &["--unchecked"]] {
         let moved = ["move", M, "sheet", "sheet"];
         folder.fails(
@@ -568,6 +646,7 @@ fn a_file_that_cannot_be_read_is_named() {
         "module",
         "imports",
         "relocations",
+        "lines",
         "sheet",
     ] {
         folder.fails(&[command, "none"], 3, missing);
@@ -684,8 +763,8 @@ fn a_full_disk_or_closed_pipe_under_a_listing_is_3() {
                 .output()
                 .unwrap(),
         );
-        let text = "xcoff: cannot write standard output: Broken pipe\n";
-        assert_eq!((ran.status, ran.err.as_str()), (Some(3), text), "{args:?}");
+        // As `head` does: nothing to say.
+        assert_eq!((ran.status, ran.err.as_str()), (Some(3), ""), "{args:?}");
     }
     // A closed standard error is no reason to panic either.
     let full = File::options().write(true).open("/dev/full").unwrap();
@@ -704,7 +783,11 @@ fn a_full_disk_or_closed_pipe_under_a_listing_is_3() {
 fn a_full_disk_under_the_line_that_tells_of_new_files_is_3() {
     let folder = bench();
     let runs = [
-        ("plan", "plan M -o new", "wrote new (96 bytes): text "),
+        (
+            "plan",
+            "plan M --recorded -o new",
+            "wrote new (96 bytes): text ",
+        ),
         (
             "build",
             "build M sheet -o new d",
@@ -753,7 +836,7 @@ fn a_file_that_is_printed_to_is_not_replaced() {
     ] {
         folder.write("log", b"keep\n");
         let mut shell = Command::new("bash");
-        let line = format!("\"$0\" plan {M} -o {name} {redirect}");
+        let line = format!("\"$0\" plan {M} --recorded -o {name} {redirect}");
         shell.current_dir(folder.path("")).args(["-c", &line]);
         let output = shell.arg(env!("CARGO_BIN_EXE_xcoff")).output().unwrap();
         let ran = Ran::of(output);
@@ -799,7 +882,7 @@ fn a_failed_write_leaves_the_old_files() {
             "move", M, "sheet", "sheet", "text", "data", "-o", "old", bad,
         ];
         folder.fails(&moved, 3, &text);
-        folder.fails(&["plan", M, "-o", bad], 3, &text);
+        folder.fails(&["plan", M, "--recorded", "-o", bad], 3, &text);
         folder.fails(&["records", M, "sheet", "-o", bad], 3, &text);
         folder.fails(&["images", M, "sheet", "srec", "-o", "old", bad], 3, &text);
     }
@@ -823,7 +906,10 @@ fn a_full_disk_leaves_the_old_files() {
     let runs = [
         (&["build", M, "sheet", "-o", "old", "data"][..], "old"),
         (&["move", M, "sheet", "sheet", "text", "data"], "text"),
-        (&["plan", M, "--text", "0", "-o", "sheet"], "sheet"),
+        (
+            &["plan", M, "--recorded", "--text", "0", "-o", "sheet"],
+            "sheet",
+        ),
         (&["records", M, "sheet", "-o", "old"], "old"),
         (&["images", M, "sheet", "srec", "-o", "text", "old"], "text"),
     ];

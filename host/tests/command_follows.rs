@@ -8,7 +8,7 @@ use made::{Entry, Module, Symbol};
 use xcoff::Format;
 
 const M: &str = "exe-dso-32";
-const HEADING: &str = "entry  address   section  offset  bits  sign  type  symbol  name\n";
+const HEADING: &str = "entry  address   image  offset  bits  sign  type  symbol  name\n";
 
 // ---- relocations --follows
 
@@ -16,12 +16,12 @@ const HEADING: &str = "entry  address   section  offset  bits  sign  type  symbo
 fn fields_are_listed_by_the_address_that_they_follow() {
     let folder = Folder::new();
     folder.copy(M);
-    let text = "    2  20000150  data         16    32  +     1f00       0  text\n";
-    let data = "    1  20000168  data         40    32  +     1f00       1  data\n    \
-                    3  20000154  data         20    32  +     1f00       1  data\n    \
-                    6  20000148  data          8    32  +     1f00       1  data\n";
-    let counter = "    0  20000164  data         36    32  +     1f00       6  counter\n    \
-                       4  20000140  data          0    32  +     1f00       6  counter\n";
+    let text = "    2  20000150  data       16    32  +     1f00       0  text\n";
+    let data = "    1  20000168  data       40    32  +     1f00       1  data\n    \
+                    3  20000154  data       20    32  +     1f00       1  data\n    \
+                    6  20000148  data        8    32  +     1f00       1  data\n";
+    let counter = "    0  20000164  data       36    32  +     1f00       6  counter\n    \
+                       4  20000140  data        0    32  +     1f00       6  counter\n";
     for (follows, rows) in [
         ("text", text),
         ("data", data),
@@ -161,7 +161,9 @@ impl Bench {
         folder.write("m", file);
         folder.write("plan", plan);
         folder.write("other", other);
-        folder.done(&["build", "m", "other", "-o", "text", "data"]);
+        // A sheet with something in the places that are ignored is warned of.
+        let ran = folder.run(&["build", "m", "other", "-o", "text", "data"]);
+        assert_eq!(ran.status, Some(0), "{}", ran.err);
         Bench(folder)
     }
 
@@ -242,8 +244,8 @@ fn modules_that_were_linked_twice_are_told_apart_by_one_address() {
                     m.data.address
                 }
             });
-            folder.done(&["plan", &a, "-o", "a.sheet"]);
-            folder.done(&["plan", &b, "-o", "b.sheet"]);
+            folder.done(&["plan", &a, "--recorded", "-o", "a.sheet"]);
+            folder.done(&["plan", &b, "--recorded", "-o", "b.sheet"]);
             folder.done(&["build", &b, "b.sheet", "-o", "text", "data"]);
             let ran = folder.run(&["check", &a, "a.sheet", "text", "data"]);
             let digits = if bits == "32" { 8 } else { 16 };
@@ -287,9 +289,25 @@ fn other_bytes_that_differ_are_told_of() {
 fn records_and_several_sheets_are_explained_alike() {
     let folder = Folder::new();
     folder.copy(M);
-    folder.done(&["plan", M, "-o", "plain"]);
-    folder.done(&["plan", M, "--import", "counter=5000", "-o", "one"]);
-    folder.done(&["plan", M, "--import", "counter=6000", "-o", "two"]);
+    folder.done(&["plan", M, "--recorded", "-o", "plain"]);
+    folder.done(&[
+        "plan",
+        M,
+        "--recorded",
+        "--import",
+        "counter=5000",
+        "-o",
+        "one",
+    ]);
+    folder.done(&[
+        "plan",
+        M,
+        "--recorded",
+        "--import",
+        "counter=6000",
+        "-o",
+        "two",
+    ]);
     folder.done(&["records", M, "one", "-o", "srec"]);
     let args = ["check", M, "plain", "--records", "srec", "--or", "two"];
     let ran = folder.run(&args);
@@ -306,7 +324,7 @@ fn records_and_several_sheets_are_explained_alike() {
 
 /// Sheets for the modules above: the text address, the data address, the imports @5 and @6.
 fn plan(text: u64, data: u64, imports: [u64; 2]) -> Vec<u8> {
-    sheet(text, data, &[1, 2, imports[0], imports[1], 3])
+    sheet(text, data, &[0, 0, imports[0], imports[1], 0])
 }
 
 #[test]

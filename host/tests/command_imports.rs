@@ -15,7 +15,12 @@ fn bench() -> Folder {
 }
 
 fn plan<'a>(more: &[&'a str]) -> Vec<&'a str> {
-    [&["plan", M, "--imports", "given"][..], more, &["-o", "s"]].concat()
+    [
+        &["plan", M, "--recorded", "--imports", "given"][..],
+        more,
+        &["-o", "s"],
+    ]
+    .concat()
 }
 
 #[test]
@@ -34,7 +39,7 @@ fn each_line_gives_an_address() {
         let out = folder.done(&plan(&[]));
         assert_eq!(
             out,
-            "wrote s (96 bytes): text 10000100, data 200001a0, 3 of 6 imports given; entry 200001d0, TOC 200001e0\n"
+            "wrote s (96 bytes): text 10000100-1000019f, data 200001a0-2000023f, 3 of 6 imports given, 3 as recorded; entry 200001d0, TOC 200001e0\n"
         );
         let expected = sheet(0x1000_0100, 0x2000_01a0, &list);
         assert_eq!(folder.read("s"), expected, "{text:?}");
@@ -200,8 +205,8 @@ fn an_import_without_a_name_is_written_as_it_is_shown() {
     folder.write("given", b"\"\" 55\n");
     folder.done(&plan(&[]));
     assert_eq!(folder.read("s"), sheet(0x1000_0100, 0x2000_01a0, &list));
-    folder.done(&["plan", M, "--import", "\"\"=55", "-o", "s2"]);
-    folder.done(&["plan", M, "--import", "=55", "-o", "s3"]);
+    folder.done(&["plan", M, "--recorded", "--import", "\"\"=55", "-o", "s2"]);
+    folder.done(&["plan", M, "--recorded", "--import", "=55", "-o", "s3"]);
     assert_eq!(folder.read("s2"), folder.read("s"));
     assert_eq!(folder.read("s3"), folder.read("s"));
 }
@@ -215,11 +220,11 @@ fn the_file_is_read_like_others() {
         "xcoff: cannot read given: No such file or directory\n",
     );
     folder.misused(
-        &["plan", M, "--imports", "s", "-o", "s"],
+        &["plan", M, "--recorded", "--imports", "s", "-o", "s"],
         "xcoff: plan: IMPORTS and SHEET are the same file, s",
     );
     folder.misused(
-        &["plan", M, "-o", "s", "--imports"],
+        &["plan", M, "--recorded", "-o", "s", "--imports"],
         "xcoff: plan: --imports needs IMPORTS",
     );
     // At most 16,777,216 bytes; an endless one is not read to its end.
@@ -234,7 +239,7 @@ fn the_file_is_read_like_others() {
         "xcoff: plan: --imports given: it has more than 16777216 bytes",
     );
     folder.misused(
-        &["plan", M, "--imports", "/dev/zero", "-o", "s"],
+        &["plan", M, "--recorded", "--imports", "/dev/zero", "-o", "s"],
         "xcoff: plan: --imports /dev/zero: it has more than 16777216 bytes",
     );
 }

@@ -136,7 +136,7 @@ fn same_headers(file: &Listed, out: &str) {
     assert_eq!(got.len(), expected.len(), "{name}");
     for (g, e) in got.iter().zip(expected) {
         assert_eq!(
-            (g[0], g[7]),
+            (g[0], g[11]),
             (decimal(&e[0]).as_str(), shown(&e[6]).as_str())
         );
         assert_eq!((hex(g[2]), hex(g[3])), (hex(&e[1]), hex(&e[2])), "{name}");
@@ -144,6 +144,10 @@ fn same_headers(file: &Listed, out: &str) {
             (g[4], g[5]),
             (decimal(&e[3]).as_str(), decimal(&e[4]).as_str())
         );
+    }
+    for (g, e) in got.iter().zip(file.all("tables")) {
+        let tables: Vec<String> = e[1..].iter().map(|n| decimal(n)).collect();
+        assert_eq!(g[7..11], tables, "{name}");
     }
     // The stored text of the header lister has the kinds as words.
     let stored = tests_folder().join("corpus").join(format!("{name}.txt"));
@@ -280,10 +284,13 @@ fn a_walk_that_stops_is_listed_up_to_there() {
          n_offset     686  2130706434\n  \
          n_sclass     698  140\n"
     );
-    // With --json too: the refusal is no row.
+    // With --json the refusal is an object too, after the rows.
     let json = folder.run(&["symbols", "gas-stabs-32.o", "--json"]);
     assert_eq!((json.status, json.err), (ran.status, ran.err));
-    assert_eq!(json.out.lines().count(), 2);
+    let lines: Vec<&str> = json.out.lines().collect();
+    assert_eq!(lines.len(), 3);
+    let refusal = r#"{"table":"refusal","about":"gas-stabs-32.o","number":10,"item":4,"offset":682,"rule":"NAME","meaning":"#;
+    assert!(lines[2].starts_with(refusal), "{}", lines[2]);
 }
 
 #[test]
@@ -599,7 +606,7 @@ fn no_byte_of_a_name_reaches_the_terminal_as_it_stands() {
     }
     // The shown name chooses the import.
     let shown = r"\x1b[2J\x20\\\x22\xff=1234";
-    folder.done(&["plan", "odd", "--import", shown, "-o", "s"]);
+    folder.done(&["plan", "odd", "--recorded", "--import", shown, "-o", "s"]);
     assert_eq!(
         folder.read("s")[24 + 8 * 8..],
         [0, 0, 0, 0, 0, 0, 0x12, 0x34]

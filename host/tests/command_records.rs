@@ -32,8 +32,8 @@ fn bench() -> Folder {
     let folder = Folder::new();
     folder.copy(M);
     let commands = [
-        "plan exe-imports-32 --text 10000 --data 80000 -o one.sheet",
-        "plan exe-imports-32 --text 40000 --data c0000 -o two.sheet",
+        "plan exe-imports-32 --recorded --text 10000 --data 80000 -o one.sheet",
+        "plan exe-imports-32 --recorded --text 40000 --data c0000 -o two.sheet",
         "build exe-imports-32 one.sheet -o text data",
         "records exe-imports-32 one.sheet -o srec",
     ];
@@ -68,7 +68,8 @@ fn edited(part: (&str, &str)) -> String {
 fn records_are_those_of_another_tool() {
     let folder = bench();
     assert_eq!(folder.read("srec"), RECORDS.as_bytes());
-    let wrote = "(805 bytes, 11 lines): text 00010000, data 00080000, entry 00080030\n";
+    let wrote =
+        "(805 bytes, 11 lines): text 00010000-0001009f, data 00080000-0008009f, entry 00080030\n";
     let words = "records exe-imports-32 one.sheet -o again";
     assert_eq!(done(&folder, words), format!("wrote again {wrote}"));
     let words = "records exe-imports-32 one.sheet --images text data -o taken";
@@ -78,13 +79,13 @@ fn records_are_those_of_another_tool() {
     let out = done(&folder, "images exe-imports-32 one.sheet srec -o t d");
     assert_eq!(
         out,
-        "wrote t (160 bytes) and d (160 bytes): entry 00080030, TOC 00080040\n"
+        "wrote t (160 bytes) and d (160 bytes): text 00010000-0001009f, data 00080000-0008009f, entry 00080030, TOC 00080040\n"
     );
     assert_eq!(folder.read("t"), folder.read("text"));
     assert_eq!(folder.read("d"), folder.read("data"));
     assert_eq!(
         done(&folder, "check exe-imports-32 one.sheet --records srec"),
-        "srec holds the images of exe-imports-32 for one.sheet\n"
+        "srec holds the images of exe-imports-32 for one.sheet (text 00010000-0001009f, data 00080000-0008009f)\n"
     );
     let names = "again d data exe-imports-32 one.sheet srec t taken text two.sheet";
     assert_eq!(folder.names().join(" "), names, "nothing else is left");
@@ -99,7 +100,7 @@ fn every_module_goes_from_file_to_records_and_back() {
     for name in names {
         let folder = Folder::new();
         folder.write("m", &command_runner::real(&name));
-        done(&folder, "plan m -o s");
+        done(&folder, "plan m --recorded -o s");
         done(&folder, "build m s -o text data");
         let out = done(&folder, "records m s -o srec");
         done(&folder, "images m s srec -o text2 data2");
@@ -132,8 +133,8 @@ fn a_module_without_an_entry_closes_with_0() {
 
 const NOT_ITS_FIELD: &str = "\
 1 of 20 relocated fields are not those of one.sheet; nothing is changed
-  address   section  offset  found     expected
-  00080008  data          8  ffe4fffc  fffffffc
+  address   image  offset  found     expected
+  00080008  data        8  ffe4fffc  fffffffc
 ";
 
 #[test]
@@ -172,9 +173,9 @@ fn other_bytes_are_kept_with_a_warning() {
     let mut data = folder.read("data");
     data[158] = 0x1b;
     folder.write("data", &data);
-    let words = "records exe-imports-32 one.sheet --images text data -o new";
+    let words = "records exe-imports-32 one.sheet --images text data --keep-changes -o new";
     let ran = folder.run(&words.split(' ').collect::<Vec<_>>());
-    let warning = "1 byte outside the relocated fields is not the module's, the first at 0008009e";
+    let warning = "1 byte outside the relocated fields is not the module's: 1 at 0008009e";
     assert_eq!(
         (ran.status, ran.err),
         (
@@ -184,7 +185,7 @@ fn other_bytes_are_kept_with_a_warning() {
     );
     assert_eq!(folder.read("new"), edited(OTHER_BYTE).as_bytes());
 
-    let words = "images exe-imports-32 one.sheet new -o t d";
+    let words = "images exe-imports-32 one.sheet new --keep-changes -o t d";
     let ran = folder.run(&words.split(' ').collect::<Vec<_>>());
     assert_eq!(
         (ran.status, ran.err),
@@ -244,14 +245,18 @@ fn a_check_says_where_records_differ_and_whether_in_fields() {
 fn a_check_of_several_sheets_says_which_the_records_are_for() {
     let folder = bench();
     let words = "check exe-imports-32 two.sheet --records srec --or one.sheet";
-    let holds = "srec holds the images of exe-imports-32 for one.sheet";
+    let at = "(text 00010000-0001009f, data 00080000-0008009f)";
+    let holds = format!("srec holds the images of exe-imports-32 for one.sheet {at}");
     assert_eq!(done(&folder, words), format!("{holds}\n"));
     folder.write("same.sheet", &folder.read("one.sheet"));
     // One that does not fit is one that the records are not for, wherever it stands.
     folder.write("short.sheet", &sheet(0, 0, &[1]));
     folder.write("clash.sheet", &sheet(0, 0, &[0; 9]));
     let words = "check exe-imports-32 short.sheet --or clash.sheet --or one.sheet --or same.sheet --records srec";
-    assert_eq!(done(&folder, words), format!("{holds} and same.sheet\n"));
+    assert_eq!(
+        done(&folder, words),
+        format!("{holds} and same.sheet {at}\n")
+    );
 
     let words = "check exe-imports-32 short.sheet --or clash.sheet --or two.sheet --records srec";
     let lines: Vec<&str> = RECORDS.lines().collect();
@@ -260,7 +265,7 @@ fn a_check_of_several_sheets_says_which_the_records_are_for() {
         .replace("0C8D", "0C8A");
     let expected = format!(
         "xcoff: short.sheet for exe-imports-32 (addresses: 1, loader symbols: 9): {NO_LIST}\n\
-         xcoff: clash.sheet for exe-imports-32: {CLASH}\n\
+         xcoff: clash.sheet for exe-imports-32 (text 00000000-0000009f, data 00000000-0000009f): {CLASH}\n\
          xcoff: srec for two.sheet: {}\n  found     {}\n  expected  {moved}\n",
         record(1),
         lines[0]
@@ -428,9 +433,12 @@ fn a_refused_plan_is_named_with_its_number() {
     let short = format!(" (addresses: 8, loader symbols: 9): {NO_LIST}");
     plan_is_refused(&folder, M, "short", &short);
     let high = "refused 19 0 0: PLAN, the text image at the plan's text address passes the end of the address space";
-    plan_is_refused(&folder, M, "high", &format!(": {high}"));
-    plan_is_refused(&folder, M, "same", &format!(": {CLASH}"));
-    plan_is_refused(&folder, M, "over", &format!(": {CLASH}"));
+    let high = format!(" (text at ffffff61, 160 bytes): {high}");
+    plan_is_refused(&folder, M, "high", &high);
+    let same = format!(" (text 00001000-0000109f, data 00001000-0000109f): {CLASH}");
+    plan_is_refused(&folder, M, "same", &same);
+    let over = format!(" (text 0000109f-0000113e, data 00001000-0000109f): {CLASH}");
+    plan_is_refused(&folder, M, "over", &over);
     // Images that only touch share nothing, and text may end with the address space.
     folder.write("touch", &sheet(0x10a0, 0x1000, &[0; 9]));
     folder.write("top", &sheet(0xffff_ff60, 0, &[0; 9]));
@@ -447,7 +455,7 @@ fn a_refused_plan_is_named_with_its_number() {
 fn an_xcoff64_module_has_no_records() {
     let folder = bench();
     folder.copy("exe-imports-64");
-    done(&folder, "plan exe-imports-64 -o sheet64");
+    done(&folder, "plan exe-imports-64 --recorded -o sheet64");
     let form = ": refused 23 0 0: FORM, S-records are for XCOFF32 modules only";
     plan_is_refused(&folder, "exe-imports-64", "sheet64", form);
 }
@@ -471,7 +479,7 @@ fn images_of_the_wrong_length_are_refused() {
             &format!("{records} none longer"),
             1,
             "xcoff: none (0 bytes, where the text image of exe-imports-32 has 160): \
-             refused 20 0 0: ROOM, the text image, sheet or record text is not exactly as long as needed\n",
+             refused 20 0 0: ROOM, the text image, sheet, record text or whole file is not exactly as long as needed\n",
         );
     }
     assert!(!folder.path("t").exists());

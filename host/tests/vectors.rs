@@ -156,8 +156,12 @@ fn section(file: &[u8], n: u64) -> Result<String, Refusal> {
     let s = xcoff::section(file, n)?;
     let kind = format!("{:?}", s.kind).to_lowercase();
     let name = name(file, xcoff::section_name(file, n)?);
+    let tables = format!(
+        "{:x} {:x} {:x} {:x}",
+        s.relptr, s.nreloc, s.lnnoptr, s.nlnno
+    );
     Ok(format!(
-        "{kind} {:x} {:x} {:x} {:x} {} {name}",
+        "{kind} {:x} {:x} {:x} {:x} {tables} {} {name}",
         s.paddr, s.vaddr, s.size, s.scnptr, s.raw as u64
     ))
 }
@@ -250,6 +254,14 @@ fn import_id(file: &[u8], n: u64) -> Result<String, Refusal> {
         xcoff::import_member(file, n)?,
     ];
     Ok(strings.map(|string| name(file, string)).join(" "))
+}
+
+fn find_line(file: &[u8], section: u64, address: u64) -> Result<String, Refusal> {
+    let f = xcoff::find_line(file, section, address)?;
+    Ok(format!(
+        "{:x} {:x} {:x} {:x}",
+        f.entry, f.address, f.line, f.symbol
+    ))
 }
 
 /// The header lister's text, from the library's answers; a newline as |.
@@ -382,6 +394,41 @@ fn srecord_read(file: &[u8], words: &mut Words) -> String {
     format!("{answer} / {text} {data}")
 }
 
+/// A lent buffer of so many bytes, of which a case says no more.
+fn lent(length: u64) -> Vec<u8> {
+    (0..length).map(|i| (i * 37 + 11) as u8).collect()
+}
+
+/// Where bytes differ from others of the same length: each run by its offset, between commas.
+fn changes(before: &[u8], after: &[u8]) -> String {
+    let differs: Vec<usize> = (0..after.len())
+        .filter(|&at| before[at] != after[at])
+        .collect();
+    let run = |run: &[usize]| {
+        let digits: String = run.iter().map(|&at| format!("{:02x}", after[at])).collect();
+        format!("{:x}:{digits}", run[0])
+    };
+    let runs: Vec<String> = differs.chunk_by(|a, b| a + 1 == *b).map(run).collect();
+    or_dash(runs.join(","))
+}
+
+fn salvage(file: &[u8], words: &mut Words) -> String {
+    let before = (lent(number(next(words))), lent(number(next(words))));
+    let (mut copy, mut report) = before.clone();
+    match xcoff::salvage_into(file, &mut copy, &mut report) {
+        Err(refusal) => {
+            assert!((copy, report) == before, "a refusal writes");
+            format!("{} / .", given(Err(refusal)))
+        }
+        Ok(count) => {
+            let (written, rest) = report.split_at(8 * count as usize);
+            assert_eq!(rest, &before.1[written.len()..], "the report's rest");
+            let written: String = written.iter().map(|b| format!("{b:02x}")).collect();
+            format!("{count:x} / {} {}", changes(file, &copy), or_dash(written))
+        }
+    }
+}
+
 // ---- the second implementation
 
 fn their_plan(words: &mut Words) -> reference::Plan {
@@ -412,6 +459,10 @@ fn operation(asked: &str) -> Op {
         "module" => Op::Module,
         "loader_symbol" => Op::LoaderSymbol(number(next(words))),
         "import_id" => Op::ImportPath(number(next(words))),
+        "find_line" => Op::FindLine {
+            section: number(next(words)),
+            address: number(next(words)),
+        },
         "calls" => Op::Calls {
             text: bytes(next(words)),
             data: bytes(next(words)),
@@ -426,6 +477,10 @@ fn operation(asked: &str) -> Op {
             data: number(next(words)),
             list: numbers(next(words)),
             sheet: bytes(next(words)),
+        },
+        "salvage" => Op::Salvage {
+            copy: lent(number(next(words))),
+            report: lent(number(next(words))),
         },
         "srecord_write" => Op::WriteRecords {
             plan: their_plan(words),
@@ -457,12 +512,14 @@ fn answer(file: &[u8], asked: &str) -> String {
         "module" => given(module(file)),
         "loader_symbol" => given(loader_symbol(file, index(&mut words))),
         "import_id" => given(import_id(file, index(&mut words))),
+        "find_line" => given(find_line(file, index(&mut words), index(&mut words))),
         "list" => listed(file),
         "calls" => calls(file, &mut words),
         "sheet_read" => sheet_read(&mut words),
         "sheet_write" => sheet_write(&mut words),
         "srecord_write" => srecord_write(file, &mut words),
         "srecord_read" => srecord_read(file, &mut words),
+        "salvage" => salvage(file, &mut words),
         _ => panic!("no such operation: {op}"),
     }
 }
@@ -575,4 +632,19 @@ fn every_recorded_case_of_request_10_is_answered_as_recorded() {
     assert_eq!(counts.values().sum::<u64>(), 600);
     assert_eq!(counts.len(), 14, "{counts:?}");
     assert_eq!((counts["sheet_read"], counts["sheet_write"]), (106, 106));
+}
+
+#[test]
+fn every_recorded_case_of_request_7_is_answered_as_recorded() {
+    let counts = check("cases-07.txt", |answer| answer);
+    assert_eq!(counts.values().sum::<u64>(), 555);
+    assert_eq!(counts.len(), 15, "{counts:?}");
+    assert_eq!(counts["find_line"], 268);
+}
+
+#[test]
+fn every_recorded_case_of_request_12_is_answered_as_recorded() {
+    let counts = check("cases-12.txt", |answer| answer);
+    assert_eq!(counts.values().sum::<u64>(), 560);
+    assert_eq!((counts["salvage"], counts["walk"]), (260, 113));
 }

@@ -64,8 +64,8 @@ def refused(answer):
 
 def section(s):
     short = bytes.fromhex(s["name"]).split(b"\0")[0].hex()
-    return "%s %s %d %s" % (s["kind"], words(s, "paddr", "vaddr", "size", "scnptr"), s["has_raw"],
-                            name({"bytes": short, "at": s["header_at"]}))
+    numbers = words(s, "paddr", "vaddr", "size", "scnptr", "relptr", "nreloc", "lnnoptr", "nlnno")
+    return "%s %s %d %s" % (s["kind"], numbers, s["has_raw"], name({"bytes": short, "at": s["header_at"]}))
 
 
 def opened(o):
@@ -164,6 +164,49 @@ def record_case(case):
     return "%s %s = %s / %s" % (asked, bytes_of(lent["records"]), answer or "written", written)
 
 
+def line_case(case):
+    answer = case["expect"]["answer"]
+    given = refused(answer) or words(answer, "entry", "address", "line", "symbol")
+    return "find_line %s = %s" % (words(case, "section", "address"), given)
+
+
+def changes(before, after):
+    """Where bytes differ from others of the same length: each run by its offset, between commas; - where none does."""
+    runs, at = [], 0
+    while at < len(after):
+        end = at
+        while end < len(after) and after[end] != before[end]:
+            end += 1
+        if end > at:
+            runs.append("%x:%s" % (at, after[at:end].hex()))
+        at = end + 1
+    return ",".join(runs) or "-"
+
+
+def file_case(case):
+    """A file that is written: of the lent buffers before only the lengths are kept, since nothing depends on their bytes."""
+    lent = {key: bytes.fromhex(text) for key, text in case["buffers"].items()}
+    after = {key: bytes.fromhex(text) for key, text in case["expect"]["buffers"].items()}
+    answer = refused(case["expect"]["answer"])
+    assert not answer or after == lent
+    return salvage_case(case, answer, lent, after)
+
+
+def salvage_case(case, answer, lent, after):
+    asked = "salvage %x %x" % (len(lent["copy"]), len(lent["report"]))
+    if answer:
+        return "%s = %s / ." % (asked, answer)
+    count = case["expect"]["answer"]
+    assert after["report"][8 * count:] == lent["report"][8 * count:]
+    written = after["report"][:8 * count].hex() or "-"
+    return "%s = %x / %s %s" % (asked, count, changes(file_of(case), after["copy"]), written)
+
+
+# Operations that came with a request: they are kept in the text of that request alone.
+OWN = {"salvage": "12", "write_module": "08", "find_line": "07", "table": "06",
+       "object": "05", "object_build": "05", "object_move": "05", "object_calls": "05"}
+
+
 READ = {
     "open": opened, "section": section, "symbol": symbol, "walk": walk, "module": module, "loader_symbol": loader_symbol,
     "csect": lambda c: words(c, "length", "align_log", "type", "smclas"),
@@ -185,6 +228,10 @@ def whole_line(case):
         return sheet_case(case)
     if case["op"].startswith("srecord"):
         return record_case(case)
+    if case["op"] == "find_line":
+        return line_case(case)
+    if case["op"] in ("salvage",):
+        return file_case(case)
     answer = case["expect"]["answer"]
     asked = "%s %x" % (case["op"], case["index"]) if "index" in case else case["op"]
     return "%s = %s" % (asked, refused(answer) or READ[case["op"]](answer))
@@ -262,7 +309,9 @@ def is_within_old_limits(case):
 
 def stands(case):
     """Whether no request that came after the case can change its answer. Request 1: names of debug classes. Request 9: types
-    that have a visibility. Request 10: sheets and limits."""
+    that have a visibility. Request 10: sheets and limits. Operations on object files, request 5, are not in the library yet."""
+    if case["op"].startswith("object"):
+        return False
     data = file_of(case)
     bits, table = symbol_table(data)
     entries = entries_of(case, table)
@@ -280,8 +329,8 @@ def make(path):
     opener = lzma.open if path.endswith(".xz") else open
     with opener(path, "rt") as f:
         recorded = [json.loads(text) for text in f]
-    cases = [case for case in recorded if stands(case)]
     name = os.path.basename(path).split(".")[0]
+    cases = [case for case in recorded if stands(case) and OWN.get(case["op"], name) == name]
     name = "cases.txt" if name == "base" else "cases-%s.txt" % name
     # Cases of one file stand together, so that it is there once.
     by_file = {}

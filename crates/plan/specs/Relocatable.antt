@@ -17,7 +17,8 @@ use Rattle.module.specs.declared.Module.{Module}
 use Rattle.parts.specs.declared.Parts.{Parts}
 use Rattle.loader_symbol.specs.declared.LoaderEntry.{LoaderEntry}
 use Rattle.loader_symbol.specs.Symbol.{entryAt, isImported}
-use Rattle.relocation.specs.Relocation.{entryIn, placeAt, subtracts}
+use Rattle.relocation.specs.declared.RelocationEntry.{RelocationEntry}
+use Rattle.relocation.specs.Relocation.{entryIn, placeAt, placeOf, subtracts}
 use Rattle.loadable.specs.declared.Loadable.{Loadable}
 use Rattle.loadable.specs.declared.LoadableAnswer.{LoadableAnswer}
 use Rattle.loadable.specs.declared.LoadableAnswer.the-variants as loadable
@@ -48,14 +49,14 @@ unfoldable pub symbolsFrom : List ℕ → Loadable → ℕ → ℕ → List Foll
 symbolsFrom file l k zero = []
 symbolsFrom file l k (suc n) = followedAt file l k ∷ symbolsFrom file l (suc k) n
 
--- relocation entry i as it is applied
+-- a relocation entry as it is applied: its field, its sign and its symbol
+abbrev pub relocationOf : Parts → RelocationEntry → Relocation
+relocationOf p e = record { place = placeOf p e; minus = subtracts (e .rtype); symbol = e .symbol }
+
+-- entry i of the file
 unfoldable pub relocationAt : List ℕ → Loadable → ℕ → Relocation
-relocationAt file l i =
-    record {
-      place = placeAt file (l .layout .format) (l .layout .parts) (l .tables) i;
-      minus = subtracts (entryIn file (l .layout .format) (l .tables) i .rtype);
-      symbol = entryIn file (l .layout .format) (l .tables) i .symbol;
-    }
+unfolding placeAt
+relocationAt file l i = relocationOf (l .layout .parts) (entryIn file (l .layout .format) (l .tables) i)
 
 -- n entries from entry i
 unfoldable pub relocationsFrom : List ℕ → Loadable → ℕ → ℕ → List Relocation

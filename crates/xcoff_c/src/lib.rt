@@ -25,6 +25,9 @@ ghost use Rattle.module_table.specs.Table.{tableCheck, tableAfter};
 ghost use Rattle.loader_symbol_table.specs.Rows.{loaderSymbols};
 ghost use Rattle.relocation_table.specs.Rows.{relocations};
 ghost use Rattle.import_table.specs.Imports.{imports};
+ghost use Rattle.line_lookup.specs.Lookup.{countReport, lineReport};
+ghost use Rattle.line_table.specs.Table.{lineTableCheck, linesAfter};
+ghost use Rattle.salvage.specs.Answer.{countAnswer, salvageAnswer, copyAfter, reportAfter, reportOfCount};
 ghost use Rattle.offset.specs.Report.{reportHead, reportOfRange};
 use csect_lookup::CsectReport;
 use displacement::Addresses;
@@ -34,16 +37,27 @@ use format::VirtualAddress;
 use header::OpenReport;
 use image::CallReport;
 use import_id::ImportString;
+use line_lookup::LineCountReport;
+use line_lookup::LineReport;
 use loadable::ModuleReport;
 use lookup::LoaderSymbolReport;
 use offset::RangeReport;
 use refusal::Head;
 use replay::ReplayReport;
+use salvage::CountReport;
 use section_lookup::SectionReport;
 use sheet::SheetReport;
 use srecord::LengthReport;
 use symbol_lookup::SymbolReport;
 use walk::WalkReport;
+
+// Which version of this interface the archive has: XCOFF_VERSION of the header that it was made with.
+#[no_mangle]
+pub extern "C" fn xcoff_version() -> u64
+    ensures { λ r. ⌜ r ≡ 1 ⌝ }
+{
+    1
+}
 
 // Opens a file: its format and how much it holds.
 #[no_mangle]
@@ -361,4 +375,56 @@ pub extern "C" fn xcoff_import_table(file: &[u8], rows: &mut [u64]) -> Head
     ensures rows { λ _. ⌜ now (rows .exit) ≡ tableAfter imports (now (file .entry)) (now (rows .entry)) ⌝ }
 {
     offset::report_head(file, import_table::import_table(file, rows))
+}
+
+// The entry for an address in the line table of text section `section`.
+#[no_mangle]
+pub extern "C" fn xcoff_find_line(file: &[u8], section: u64, address: u64) -> LineReport
+    ensures { λ r. ⌜ r ≡ lineReport (now (file .entry)) (record { 0 = section }) address ⌝ }
+{
+    line_lookup::report_line(
+        file,
+        line_lookup::find_line(file, SectionNumber(section), address),
+    )
+}
+
+// How many entries that table has.
+#[no_mangle]
+pub extern "C" fn xcoff_line_count(file: &[u8], section: u64) -> LineCountReport
+    ensures { λ r. ⌜ r ≡ countReport (now (file .entry)) (record { 0 = section }) ⌝ }
+{
+    line_lookup::report_count(
+        file,
+        line_lookup::find_line_table(file, SectionNumber(section)),
+    )
+}
+
+// Lists them: a row of 3 numbers for each.
+#[no_mangle]
+pub extern "C" fn xcoff_line_table(file: &[u8], section: u64, rows: &mut [u64]) -> Head
+    ensures answer { λ r. ⌜ r ≡ reportHead (now (file .entry)) (lineTableCheck (now (file .entry)) (record { 0 = section }) (length (now (rows .entry)))) ⌝ }
+    ensures rows { λ _. ⌜ now (rows .exit) ≡ linesAfter (now (file .entry)) (record { 0 = section }) (now (rows .entry)) ⌝ }
+{
+    offset::report_head(
+        file,
+        line_table::line_table(file, SectionNumber(section), rows),
+    )
+}
+
+// How many changes salvaging the symbol table of a file makes.
+#[no_mangle]
+pub extern "C" fn xcoff_salvage_count(file: &[u8]) -> CountReport
+    ensures { λ r. ⌜ r ≡ reportOfCount (now (file .entry)) (countAnswer (now (file .entry))) ⌝ }
+{
+    salvage::report_count(file, salvage::salvage_count(file))
+}
+
+// Writes a copy in which the walk reaches the table's end, and 8 bytes of report for each change.
+#[no_mangle]
+pub extern "C" fn xcoff_salvage(file: &[u8], copy: &mut [u8], report: &mut [u8]) -> CountReport
+    ensures answer { λ r. ⌜ r ≡ reportOfCount (now (file .entry)) (salvageAnswer (now (file .entry)) (length (now (copy .entry))) (length (now (report .entry)))) ⌝ }
+    ensures copied { λ _. ⌜ now (copy .exit) ≡ copyAfter (now (file .entry)) (now (copy .entry)) (length (now (report .entry))) ⌝ }
+    ensures reported { λ _. ⌜ now (report .exit) ≡ reportAfter (now (file .entry)) (length (now (copy .entry))) (now (report .entry)) ⌝ }
+{
+    salvage::report_count(file, salvage::salvage(file, copy, report))
 }

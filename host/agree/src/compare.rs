@@ -1,6 +1,6 @@
 //! One operation, run by both implementations.
 
-use crate::{images, later, places, read, records};
+use crate::{images, later, lines, places, read, records, salvages};
 use reference::generate::Op;
 use reference::Refusal;
 use std::fmt::Debug;
@@ -32,8 +32,11 @@ pub type Agreement = Result<Agreed, Difference>;
 /// refusals point.
 pub fn compare(file: &[u8], op: &Op) -> Agreement {
     let agreed = run_both(file, op)?;
-    for refusal in &agreed.refusals {
-        places::read(file, refusal)?;
+    // What the library does not have yet it cannot show either.
+    if !later::is_later(op) {
+        for refusal in &agreed.refusals {
+            places::read(file, refusal)?;
+        }
     }
     Ok(agreed)
 }
@@ -61,6 +64,8 @@ fn run_both(file: &[u8], op: &Op) -> Agreement {
             text,
             data,
         } => records::read(file, plan, records, (text, data)),
+        Op::FindLine { section, address } => lines::find(file, *section, *address),
+        Op::Salvage { copy, report } => salvages::salvage(file, copy, report),
         _ if later::is_later(op) => later::alone(file, op),
         _ => read::read(file, op),
     }

@@ -14,10 +14,8 @@ pub fn is_later(op: &Op) -> bool {
             | Op::ObjectBuild { .. }
             | Op::ObjectMove { .. }
             | Op::ObjectCalls { .. }
-            | Op::FindLine { .. }
             | Op::Table(_)
             | Op::WriteModule { .. }
-            | Op::Salvage { .. }
     )
 }
 

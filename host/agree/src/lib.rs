@@ -7,11 +7,13 @@ mod every;
 mod images;
 mod later;
 mod lent;
+mod lines;
 mod lister;
 mod places;
 mod read;
 mod records;
 mod run;
+mod salvages;
 mod tables;
 
 pub use compare::{compare, Agreed, Difference};

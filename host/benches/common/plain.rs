@@ -121,7 +121,16 @@ impl Move {
     }
 
     pub fn whole(&mut self) {
-        black_box(move_images(&self.file, &self.from, &self.to, &mut self.text, &mut self.data).unwrap());
+        black_box(
+            move_images(
+                &self.file,
+                &self.from,
+                &self.to,
+                &mut self.text,
+                &mut self.data,
+            )
+            .unwrap(),
+        );
     }
 
     /// The same loop in plain Rust, which judges nothing.

@@ -46,12 +46,26 @@ impl Records {
     }
 
     pub fn write(&mut self) {
-        write_records_into(&self.file, &self.plan, &self.text, &self.data, &mut self.records).unwrap();
+        write_records_into(
+            &self.file,
+            &self.plan,
+            &self.text,
+            &self.data,
+            &mut self.records,
+        )
+        .unwrap();
         black_box(&mut self.records);
     }
 
     pub fn read(&mut self) {
-        read_records(&self.file, &self.plan, &self.records, &mut self.text, &mut self.data).unwrap();
+        read_records(
+            &self.file,
+            &self.plan,
+            &self.records,
+            &mut self.text,
+            &mut self.data,
+        )
+        .unwrap();
         black_box((&mut self.text, &mut self.data));
     }
 

@@ -64,7 +64,11 @@ impl Tables {
         data: &mut [u8],
     ) {
         let symbols = &file[self.symbols.clone()];
-        let (number, text_base, data_base) = (self.text.number as u16, self.text.address, self.data.address);
+        let (number, text_base, data_base) = (
+            self.text.number as u16,
+            self.text.address,
+            self.data.address,
+        );
         for bytes in file[self.entries.clone()].chunks_exact(N) {
             let e = read(bytes.try_into().unwrap());
             let shift = match e.symbol {
@@ -114,13 +118,19 @@ fn entry64(b: &[u8; 16]) -> Entry {
 
 /// Adds to the field at the start of the bytes, or subtracts from it: 8 bytes or 4, by the entry's type.
 fn change(bytes: &mut [u8], [width, kind]: [u8; 2], shift: u64) {
-    let shift = if kind == 1 { shift.wrapping_neg() } else { shift };
+    let shift = if kind == 1 {
+        shift.wrapping_neg()
+    } else {
+        shift
+    };
     if width & 0x3F == 63 {
         let field = bytes.first_chunk_mut().unwrap();
         *field = u64::from_be_bytes(*field).wrapping_add(shift).to_be_bytes();
     } else {
         let field = bytes.first_chunk_mut().unwrap();
-        *field = u32::from_be_bytes(*field).wrapping_add(shift as u32).to_be_bytes();
+        *field = u32::from_be_bytes(*field)
+            .wrapping_add(shift as u32)
+            .to_be_bytes();
     }
 }
 

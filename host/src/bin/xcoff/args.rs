@@ -1,6 +1,7 @@
 //! The command line of one command, taken apart.
 
 use crate::escape;
+use crate::near::nearest;
 use crate::problem::Problem;
 use crate::syntax::{Command, Flag};
 use std::ffi::{OsStr, OsString};
@@ -35,6 +36,10 @@ impl Arguments {
         Ok(parsed)
     }
 
+    pub fn operands(&self) -> &[PathBuf] {
+        &self.operands
+    }
+
     /// Operand `n`, which the syntax asks for.
     pub fn path(&self, n: usize) -> &Path {
         &self.operands[n]
@@ -62,6 +67,19 @@ impl Arguments {
         Some(values.iter().map(Path::new).collect())
     }
 
+    /// The decimal number of an option that is given at most once.
+    pub fn number(&self, name: &'static str) -> Result<Option<u64>, Problem> {
+        let Some(value) = self.each(name).next() else {
+            return Ok(None);
+        };
+        decimal(value[0].as_bytes()).map(Some).ok_or_else(|| {
+            let shown = escape::argument(&value[0]);
+            self.wrong(format!(
+                "{name}: {shown} is not a decimal number of at most 64 bits"
+            ))
+        })
+    }
+
     fn option(
         &mut self,
         word: OsString,
@@ -70,7 +88,11 @@ impl Arguments {
         let (name, joined) = split_option(&word);
         let known = self.command.options.iter().find(|flag| name == flag.name);
         let Some(flag) = known else {
-            return Err(self.wrong(format!("unknown option {}", escape::argument(&word))));
+            let known = self.command.options.iter().map(|flag| flag.name);
+            let near = name.to_str().and_then(|name| nearest(name, known));
+            let meant = near.map_or(String::new(), |near| format!("; did you mean {near}?"));
+            let word = escape::argument(&word);
+            return Err(self.wrong(format!("unknown option {word}{meant}")));
         };
         if !flag.repeated && self.has(flag.name) {
             return Err(self.wrong(format!("{} is given twice", flag.name)));
@@ -120,7 +142,7 @@ impl Arguments {
         if let Some(missing) = names.get(self.operands.len()) {
             return Err(self.wrong(format!("{missing} is missing")));
         }
-        match self.operands.get(names.len() + optional) {
+        match self.operands.get(names.len().saturating_add(optional)) {
             Some(extra) => {
                 let extra = escape::argument(extra);
                 Err(self.wrong(format!("{extra} is one argument too many")))
@@ -161,4 +183,14 @@ pub fn hex(text: &[u8]) -> Option<u64> {
     let plain = !digits.is_empty() && digits.iter().all(u8::is_ascii_hexdigit);
     let digits = std::str::from_utf8(digits).ok().filter(|_| plain)?;
     u64::from_str_radix(digits, 16).ok()
+}
+
+/// A number of at most 64 bits in decimal digits.
+pub fn decimal(text: &[u8]) -> Option<u64> {
+    let plain = text.iter().all(u8::is_ascii_digit);
+    std::str::from_utf8(text)
+        .ok()
+        .filter(|_| plain)?
+        .parse()
+        .ok()
 }

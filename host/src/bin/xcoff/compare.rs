@@ -7,6 +7,7 @@ use crate::lists::image_word;
 use crate::load::{Loaded, Pair, Sheet};
 use crate::output::{complain, refused_in};
 use crate::problem::Problem;
+use std::ops::Range;
 use xcoff::{Image, Relocation};
 
 /// Fields that a report shows before it only counts.
@@ -92,7 +93,7 @@ impl Fields {
         let shown = &self.0[..self.0.len().min(SHOWN)];
         let columns = vec![
             hex("address", digits),
-            word("section", 4),
+            word("image", 5),
             number("offset", shown.iter().map(|f| f.offset).max().unwrap_or(0)),
             word("found", digits),
             word("expected", digits),
@@ -118,7 +119,7 @@ impl Fields {
     }
 }
 
-fn range_of(f: &Relocation) -> std::ops::Range<usize> {
+fn range_of(f: &Relocation) -> Range<usize> {
     f.offset as usize..(f.offset + f.width) as usize
 }
 
@@ -145,6 +146,18 @@ fn difference(found: &[u8], expected: &[u8]) -> Option<Difference> {
         expected: expected[offset],
         count: 1 + differing.count(),
     })
+}
+
+/// Where two images of the same length differ: bytes that follow each other as one.
+fn runs(found: &[u8], expected: &[u8]) -> Vec<Range<usize>> {
+    let mut runs: Vec<Range<usize>> = Vec::new();
+    for at in (0..found.len()).filter(|&at| found[at] != expected[at]) {
+        match runs.last_mut() {
+            Some(last) if last.end == at => last.end += 1,
+            _ => runs.push(at..at + 1),
+        }
+    }
+    runs
 }
 
 impl<'a> Beside<'a> {
@@ -200,7 +213,7 @@ impl<'a> Beside<'a> {
     }
 
     /// Relocated fields are not the plan's: a line that says so, what else there is to say, and the fields.
-    pub fn not_its_fields(&self, more: Option<String>) -> Problem {
+    pub fn not_its_fields(&self, more: impl IntoIterator<Item = String>) -> Problem {
         let mut lines = vec![format!(
             "xcoff: {}: {}; nothing is changed",
             self.found.names(),
@@ -213,24 +226,63 @@ impl<'a> Beside<'a> {
         Problem::Unequal(lines)
     }
 
-    /// Warns of bytes outside the relocated fields that are not the module's: a card's program may have written there, so
-    /// they are kept, but whoever goes on with them should know.
-    pub fn warn(&self) {
+    /// The relocated fields are the plan's: so must all other bytes be, unless changes are to be kept. Then a warning says
+    /// how many there are, and where: a card's program may have written there, but whoever goes on with them should know.
+    pub fn all_equal_or_kept(&self, keep_changes: bool) -> Result<(), Problem> {
+        let changes = self.changes();
+        if keep_changes {
+            let warning = |change: &String| format!("xcoff: warning: {change}; kept as found");
+            complain(&changes.iter().map(warning).collect::<Vec<_>>());
+            return Ok(());
+        }
+        if changes.is_empty() {
+            return Ok(());
+        }
+        let refused = |change: &String| format!("xcoff: {change}; nothing is changed");
+        let mut lines: Vec<String> = changes.iter().map(refused).collect();
+        lines.push(format!(
+            "xcoff: the relocated fields are those of {}: --keep-changes takes the other bytes as they are",
+            escape::argument(self.sheet.path)
+        ));
+        Err(Problem::Unequal(lines))
+    }
+
+    /// Bytes outside the relocated fields that are not the module's: for each image that has some, how many and where.
+    fn changes(&self) -> Vec<String> {
         let mixed = self.fields.put_into(&self.expected, &self.found.pair);
-        let warning = |image: Image| {
-            let d = difference(self.found.pair.image(image), mixed.image(image))?;
-            let (bytes, are) = match d.count {
+        let change = |image: Image| {
+            let runs = runs(self.found.pair.image(image), mixed.image(image));
+            let count = runs.iter().map(|run| run.len()).sum::<usize>();
+            let (bytes, are) = match count {
+                0 => return None,
                 1 => ("byte", "is"),
                 _ => ("bytes", "are"),
             };
             Some(format!(
-                "xcoff: warning: {}: {} {bytes} outside the relocated fields {are} not the module's, {}; kept as found",
+                "{}: {count} {bytes} outside the relocated fields {are} not the module's: {}",
                 escape::argument(self.found.path(image)),
-                d.count,
-                self.first(image, &d)
+                self.places(image, &runs)
             ))
         };
-        complain(&IMAGES.into_iter().filter_map(warning).collect::<Vec<_>>());
+        IMAGES.into_iter().filter_map(change).collect()
+    }
+
+    /// The first places of an image, each with its address, where it was found and how many bytes it has.
+    fn places(&self, image: Image, runs: &[Range<usize>]) -> String {
+        let place = |run: &Range<usize>| {
+            format!(
+                "{} at {:0digits$x} ({})",
+                run.len(),
+                self.sheet.address(image) + run.start as u64,
+                self.found.at(image, run.start),
+                digits = self.file.digits()
+            )
+        };
+        let shown: Vec<String> = runs.iter().take(SHOWN).map(place).collect();
+        match runs.len() {
+            n if n > SHOWN => format!("{} and at {} more places", shown.join(", "), n - SHOWN),
+            _ => shown.join(", "),
+        }
     }
 
     /// How the images differ from the plan's, a line for each thing to say; none where they do not.

@@ -35,7 +35,11 @@ pub fn lines(beside: &Beside) -> Result<Vec<String>, Problem> {
         return Ok(Vec::new());
     }
     let file = beside.file;
-    let symbols = refused_in(file.path, &file.bytes, xcoff::loader_symbol_table(&file.bytes))?;
+    let symbols = refused_in(
+        file.path,
+        &file.bytes,
+        xcoff::loader_symbol_table(&file.bytes),
+    )?;
     let shares = shares(beside, &amounts)?;
     let explained = shares.iter().filter_map(|(&address, shares)| {
         let value = proposed(shares, amounts.len(), address.of(&beside.sheet.plan))?;

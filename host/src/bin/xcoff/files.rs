@@ -46,11 +46,20 @@ pub fn same(a: &Path, b: &Path) -> bool {
 /// sees a part of a file. If anything fails, the targets stay as they were. A kill between two renames leaves the first
 /// file new and the second old, each of them whole.
 pub fn replace(files: &[(&Path, &[u8])]) -> Result<(), Problem> {
+    replace_if(files, || Ok(()))
+}
+
+/// The same, unless a last look before the first renaming finds a problem.
+pub fn replace_if(
+    files: &[(&Path, &[u8])],
+    last_look: impl FnOnce() -> Result<(), Problem>,
+) -> Result<(), Problem> {
     let mut written = Vec::new();
     for (path, bytes) in files {
         let new = write_beside(path, bytes);
         written.push(new.map_err(|e| cannot_write(path, &e))?);
     }
+    last_look()?;
     for n in 0..written.len() {
         if n + 1 < written.len() {
             written[n].keep_old();
@@ -176,7 +185,7 @@ fn is_printed_to(file: &Metadata) -> bool {
 }
 
 /// Where a path leads: symbolic links are followed, so that a link stays and its target is replaced.
-fn place(path: &Path) -> io::Result<PathBuf> {
+pub fn place(path: &Path) -> io::Result<PathBuf> {
     let missing = match fs::canonicalize(path) {
         Err(e) if e.kind() == ErrorKind::NotFound => e,
         found => return found,

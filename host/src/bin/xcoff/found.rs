@@ -29,6 +29,24 @@ impl<'p> Found<'p> {
         })
     }
 
+    /// Whether the files still hold what was read: another program, which knows of no lock, may have written there. What is
+    /// no plain file cannot be read again.
+    pub fn unchanged(&self) -> Result<(), Problem> {
+        let Place::Files(paths) = self.place else {
+            return Ok(());
+        };
+        for (path, bytes) in paths.into_iter().zip([&self.pair.text, &self.pair.data]) {
+            let plain = std::fs::metadata(path).is_ok_and(|file| file.is_file());
+            if plain && files::read(path, files::IMAGE)? != *bytes {
+                return Err(Problem::Unequal(vec![format!(
+                    "xcoff: {} was changed by another program after it was read; nothing is changed",
+                    escape::argument(path)
+                )]));
+            }
+        }
+        Ok(())
+    }
+
     /// The file that an image was found in.
     pub fn path(&self, image: Image) -> &'p Path {
         match (&self.place, image) {
@@ -134,7 +152,7 @@ impl<'p> Found<'p> {
 
 /// A file with records, as it was found.
 pub struct RecordText<'p> {
-    path: &'p Path,
+    pub path: &'p Path,
     bytes: Vec<u8>,
 }
 

@@ -119,12 +119,13 @@ impl Source<'_> {
     }
 }
 
-/// Puts the addresses into the list of a plan. An import that is given twice is an error, wherever it is given.
+/// Puts the addresses into the list of a plan, and says for each place whether it was given. An import that is given twice is
+/// an error, wherever it is given.
 pub fn place_imports(
     given: &[Given],
     symbols: &[LoaderRow],
     list: &mut [u64],
-) -> Result<(), String> {
+) -> Result<Vec<bool>, String> {
     let named = named(given, symbols);
     let mut first: Vec<Option<&Given>> = vec![None; list.len()];
     for import in given {
@@ -138,7 +139,7 @@ pub fn place_imports(
         }
         list[place] = import.address;
     }
-    Ok(())
+    Ok(first.iter().map(Option::is_some).collect())
 }
 
 type Named<'a> = HashMap<&'a [u8], Vec<&'a LoaderRow<'a>>>;

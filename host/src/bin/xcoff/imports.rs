@@ -89,15 +89,22 @@ pub fn takes_address(row: &LoaderRow) -> bool {
 
 fn imports_shown(symbols: &[LoaderRow]) -> String {
     let imports: Vec<&LoaderRow> = symbols.iter().filter(|row| takes_address(row)).collect();
+    match imports.len() {
+        0 => "the module has none".to_string(),
+        _ => format!("the module has {}", list_shown(&imports)),
+    }
+}
+
+/// "@INDEX NAME" of each, of many the first ones.
+pub fn list_shown(imports: &[&LoaderRow]) -> String {
     let shown: Vec<String> = imports
         .iter()
         .take(SHOWN)
         .map(|row| format!("@{} {}", row.index, escape::name(row.name)))
         .collect();
     match imports.len() {
-        0 => "the module has none".to_string(),
-        n if n > SHOWN => format!("the module has {} and {} more", shown.join(", "), n - SHOWN),
-        _ => format!("the module has {}", shown.join(", ")),
+        n if n > SHOWN => format!("{} and {} more", shown.join(", "), n - SHOWN),
+        _ => shown.join(", "),
     }
 }
 

@@ -5,6 +5,7 @@
 use crate::escape;
 use std::fmt::Write as _;
 use std::io::{self, Write};
+use std::path::Path;
 
 pub enum Cell<'a> {
     /// An address, a type, flags.
@@ -14,11 +15,17 @@ pub enum Cell<'a> {
     Named(i64, Option<&'static str>),
     Word(&'static str),
     Name(&'a [u8]),
+    /// A file as the command line names it.
+    Path(&'a Path),
+    /// "yes" or "no" for people.
+    Flag(bool),
     Nothing,
 }
 
 pub struct Column {
     name: &'static str,
+    /// What people read above it, where that is another word.
+    heading: Option<&'static str>,
     shape: Shape,
 }
 
@@ -33,20 +40,18 @@ enum Shape {
 
 /// A number of so many hexadecimal digits.
 pub fn hex(name: &'static str, digits: usize) -> Column {
-    let shape = Shape::Hex(digits);
-    Column { name, shape }
+    Column::new(name, Shape::Hex(digits))
 }
 
 /// Numbers up to the greatest one.
 pub fn number(name: &'static str, greatest: u64) -> Column {
-    let shape = Shape::Right(greatest.checked_ilog10().unwrap_or(0) as usize + 1);
-    Column { name, shape }
+    let digits = greatest.checked_ilog10().unwrap_or(0) as usize + 1;
+    Column::new(name, Shape::Right(digits))
 }
 
 /// Words of at most so many characters. A longer one pushes the rest of its line to the right.
 pub fn word(name: &'static str, width: usize) -> Column {
-    let shape = Shape::Left(width);
-    Column { name, shape }
+    Column::new(name, Shape::Left(width))
 }
 
 /// Names that are not the last column: wide enough for all of them, up to a bound, since every row pays for it.
@@ -55,15 +60,37 @@ pub fn names<'a>(name: &'static str, all: impl Iterator<Item = &'a [u8]>) -> Col
 }
 
 impl Column {
+    fn new(name: &'static str, shape: Shape) -> Column {
+        Column {
+            name,
+            heading: None,
+            shape,
+        }
+    }
+
+    /// The column with another word above it for people.
+    pub fn headed(self, word: &'static str) -> Column {
+        Column {
+            heading: Some(word),
+            ..self
+        }
+    }
+
+    fn heading(&self) -> &'static str {
+        self.heading.unwrap_or(self.name)
+    }
+
     fn width(&self) -> usize {
         let (Shape::Hex(width) | Shape::Right(width) | Shape::Left(width)) = self.shape;
-        width.max(self.name.len())
+        width.max(self.heading().len())
     }
 }
 
 pub struct Listing<'w> {
     out: &'w mut dyn Write,
     json: bool,
+    /// The file that is listed, where there are several.
+    file: Option<&'w Path>,
     table: &'static str,
     columns: Vec<Column>,
     line: String,
@@ -75,11 +102,18 @@ impl<'w> Listing<'w> {
         Listing {
             out,
             json,
+            file: None,
             table: "",
             columns: Vec::new(),
             line: String::new(),
             cell: String::new(),
         }
+    }
+
+    /// A listing of one file of several: it stands under the file's name, for programs each row has it.
+    pub fn of(mut self, file: Option<&'w Path>) -> Listing<'w> {
+        self.file = file;
+        self
     }
 
     /// Begins a table; for programs each of its rows bears the table's name.
@@ -90,12 +124,14 @@ impl<'w> Listing<'w> {
         if self.json {
             return Ok(());
         }
-        if !first {
-            writeln!(self.out)?;
+        match self.file {
+            Some(file) if first => writeln!(self.out, "{}:", escape::argument(file))?,
+            _ if !first => writeln!(self.out)?,
+            _ => {}
         }
         self.line.clear();
         for column in &self.columns {
-            pad(&mut self.line, column, column.name);
+            pad(&mut self.line, column, column.heading());
         }
         self.end_line()
     }
@@ -115,11 +151,20 @@ impl<'w> Listing<'w> {
         self.end_line()
     }
 
+    /// What was listed so far goes out at once.
+    pub fn flush(&mut self) -> io::Result<()> {
+        self.out.flush()
+    }
+
     fn json_row(&mut self, cells: &[Cell]) {
         push(
             &mut self.line,
             format_args!("{{\"table\":\"{}\"", self.table),
         );
+        if let Some(file) = self.file {
+            self.line.push_str(",\"file\":");
+            push_json_text(&mut self.line, &escape::argument(file));
+        }
         for (column, cell) in self.columns.iter().zip(cells) {
             push(&mut self.line, format_args!(",\"{}\":", column.name));
             push_json(&mut self.line, column, cell);
@@ -152,6 +197,8 @@ fn push_text(out: &mut String, column: &Column, cell: &Cell) {
         Cell::Named(value, None) => push(out, format_args!("{value}")),
         Cell::Word(word) => out.push_str(word),
         Cell::Name(bytes) => escape::push_name(bytes, out),
+        Cell::Path(path) => out.push_str(&escape::argument(path)),
+        Cell::Flag(yes) => out.push_str(if *yes { "yes" } else { "no" }),
         Cell::Nothing => out.push('-'),
     }
 }
@@ -167,6 +214,8 @@ fn push_json(out: &mut String, column: &Column, cell: &Cell) {
         Cell::Named(value, _) => push(out, format_args!("{value}")),
         Cell::Word(word) => push(out, format_args!("\"{word}\"")),
         Cell::Name(bytes) => push_json_name(out, column, bytes),
+        Cell::Path(path) => push_json_text(out, &escape::argument(path)),
+        Cell::Flag(yes) => push(out, format_args!("{yes}")),
         Cell::Nothing => out.push_str("null"),
     }
 }
@@ -193,6 +242,20 @@ fn push_json_name(out: &mut String, column: &Column, bytes: &[u8]) {
     if bytes.len() > escape::MOST {
         push(out, format_args!(",\"{}_cut\":true", column.name));
     }
+}
+
+/// A text of ours as a JSON string.
+pub fn push_json_text(out: &mut String, text: &str) {
+    out.push('"');
+    for c in text.chars() {
+        match c {
+            '"' | '\\' => push(out, format_args!("\\{c}")),
+            '\n' => out.push_str("\\n"),
+            ' '.. => out.push(c),
+            _ => push(out, format_args!("\\u{:04x}", c as u32)),
+        }
+    }
+    out.push('"');
 }
 
 fn push(out: &mut String, text: std::fmt::Arguments) {

@@ -8,14 +8,68 @@ use crate::listing::{hex, names, number, word, Cell, Column, Listing};
 use crate::output::{print, refused_in};
 use crate::problem::Problem;
 use crate::words::{class_word, kind_word, mapping_word, section_word, visibility_word};
-use std::io;
+use std::io::{self, Write};
+use std::path::Path;
 use xcoff::{
     Anchor, Csect, CsectType, Format, Image, LoaderRow, Module, Opened, Part, Relocation, Section,
     SymbolRow, SymbolTable,
 };
 
+pub type Lister = fn(&Arguments, &Path) -> Result<(), Problem>;
+
+/// Lists each file; what is wrong with one of several is said, and the others are listed all the same.
+pub fn each(args: &Arguments, list: Lister) -> Result<(), Problem> {
+    if let [path] = args.operands() {
+        return list(args, path);
+    }
+    let json = args.has("--json");
+    let mut worst = 0;
+    for (n, path) in args.operands().iter().enumerate() {
+        if n > 0 && !json {
+            print(|out| writeln!(out))?;
+        }
+        match list(args, path) {
+            Ok(()) => {}
+            Err(Problem::Closed) => return Err(Problem::Closed),
+            Err(problem) => {
+                problem.tell(json);
+                worst = worst.max(problem.status());
+            }
+        }
+    }
+    match worst {
+        0 => Ok(()),
+        status => Err(Problem::Told(status)),
+    }
+}
+
+/// A listing of a file, under its name where there are several.
+pub fn open<'w>(args: &Arguments, out: &'w mut dyn Write, path: &'w Path) -> Listing<'w> {
+    let several = args.operands().len() > 1;
+    Listing::new(out, args.has("--json")).of(several.then_some(path))
+}
+
 pub fn headers(args: &Arguments) -> Result<(), Problem> {
-    let path = args.path(0);
+    each(args, headers_of)
+}
+
+pub fn symbols(args: &Arguments) -> Result<(), Problem> {
+    each(args, symbols_of)
+}
+
+pub fn module(args: &Arguments) -> Result<(), Problem> {
+    each(args, module_of)
+}
+
+pub fn imports(args: &Arguments) -> Result<(), Problem> {
+    each(args, imports_of)
+}
+
+pub fn relocations(args: &Arguments) -> Result<(), Problem> {
+    each(args, relocations_of)
+}
+
+fn headers_of(args: &Arguments, path: &Path) -> Result<(), Problem> {
     let file = files::read(path, files::FILE)?;
     let opened = refused_in(path, &file, xcoff::open(&file))?;
     let mut sections = Vec::new();
@@ -27,7 +81,7 @@ pub fn headers(args: &Arguments) -> Result<(), Problem> {
         ));
     }
     print(|out| {
-        let mut list = Listing::new(out, args.has("--json"));
+        let mut list = open(args, out, path);
         file_row(&mut list, &opened)?;
         list.table("sections", section_columns(&opened, &sections))?;
         for (n, (section, name)) in sections.iter().enumerate() {
@@ -65,6 +119,10 @@ fn section_columns(opened: &Opened, sections: &[(Section, &[u8])]) -> Vec<Column
         number("size", greatest(|s| s.size)),
         number("offset", greatest(|s| s.scnptr)),
         word("raw", 3),
+        number("relptr", greatest(|s| s.relptr)),
+        number("nreloc", greatest(|s| s.nreloc)),
+        number("lnnoptr", greatest(|s| s.lnnoptr)),
+        number("nlnno", greatest(|s| s.nlnno)),
         word("name", 0),
     ]
 }
@@ -77,19 +135,22 @@ fn section_row(list: &mut Listing, n: u64, section: &Section, name: &[u8]) -> io
         Cell::Hex(section.vaddr),
         Cell::Number(section.size),
         Cell::Number(section.scnptr),
-        Cell::Word(if section.raw { "yes" } else { "no" }),
+        Cell::Flag(section.raw),
+        Cell::Number(section.relptr),
+        Cell::Number(section.nreloc),
+        Cell::Number(section.lnnoptr),
+        Cell::Number(section.nlnno),
         Cell::Name(name),
     ])
 }
 
 /// Lists what the walk reads; where it ends early, the refusal follows the list.
-pub fn symbols(args: &Arguments) -> Result<(), Problem> {
-    let path = args.path(0);
+fn symbols_of(args: &Arguments, path: &Path) -> Result<(), Problem> {
     let file = files::read(path, files::FILE)?;
     let opened = refused_in(path, &file, xcoff::open(&file))?;
     let table = refused_in(path, &file, xcoff::symbol_table(&file))?;
     print(|out| {
-        let mut list = Listing::new(out, args.has("--json"));
+        let mut list = open(args, out, path);
         list.table("symbols", symbol_columns(opened.format, &table))?;
         table.rows().try_for_each(|row| symbol_row(&mut list, &row))
     })?;
@@ -158,13 +219,12 @@ fn csect_cell(row: &SymbolRow) -> Cell<'static> {
     }
 }
 
-pub fn module(args: &Arguments) -> Result<(), Problem> {
-    let path = args.path(0);
+fn module_of(args: &Arguments, path: &Path) -> Result<(), Problem> {
     let file = files::read(path, files::FILE)?;
     let module = refused_in(path, &file, xcoff::module(&file))?;
     let symbols = refused_in(path, &file, xcoff::loader_symbol_table(&file))?;
     print(|out| {
-        let mut list = Listing::new(out, args.has("--json"));
+        let mut list = open(args, out, path);
         module_row(&mut list, &module)?;
         module_parts(&mut list, &module)?;
         module_anchors(&mut list, &module)?;
@@ -279,8 +339,7 @@ pub fn use_word(row: &LoaderRow) -> &'static str {
     }
 }
 
-pub fn imports(args: &Arguments) -> Result<(), Problem> {
-    let path = args.path(0);
+fn imports_of(args: &Arguments, path: &Path) -> Result<(), Problem> {
     let file = files::read(path, files::FILE)?;
     let module = refused_in(path, &file, xcoff::module(&file))?;
     let ids = refused_in(path, &file, xcoff::import_table(&file))?;
@@ -292,7 +351,7 @@ pub fn imports(args: &Arguments) -> Result<(), Problem> {
         word("member", 0),
     ];
     print(|out| {
-        let mut list = Listing::new(out, args.has("--json"));
+        let mut list = open(args, out, path);
         list.table("ids", id_columns)?;
         for (n, id) in ids.rows().enumerate() {
             list.row(&[
@@ -329,8 +388,7 @@ fn imported(list: &mut Listing, m: &Module, symbols: &[LoaderRow]) -> io::Result
     Ok(())
 }
 
-pub fn relocations(args: &Arguments) -> Result<(), Problem> {
-    let path = args.path(0);
+fn relocations_of(args: &Arguments, path: &Path) -> Result<(), Problem> {
     let file = files::read(path, files::FILE)?;
     let module = refused_in(path, &file, xcoff::module(&file))?;
     let symbols = refused_in(path, &file, xcoff::loader_symbol_table(&file))?;
@@ -339,7 +397,7 @@ pub fn relocations(args: &Arguments) -> Result<(), Problem> {
     let columns = vec![
         number("entry", module.relocations),
         hex("address", digits(module.format)),
-        word("section", 4),
+        word("image", 5),
         number(
             "offset",
             entries.iter().map(|e| e.offset).max().unwrap_or(0),
@@ -351,7 +409,7 @@ pub fn relocations(args: &Arguments) -> Result<(), Problem> {
         word("name", 0),
     ];
     print(|out| {
-        let mut list = Listing::new(out, args.has("--json"));
+        let mut list = open(args, out, path);
         list.table("relocations", columns)?;
         let shown = |(_, entry): &(usize, &Relocation)| selected.has(entry);
         for (n, entry) in entries.iter().enumerate().filter(shown) {

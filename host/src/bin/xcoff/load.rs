@@ -3,8 +3,9 @@
 use crate::args::Arguments;
 use crate::escape;
 use crate::files;
+use crate::kinds;
 use crate::lists;
-use crate::output::{refused, refused_in};
+use crate::output::refused_in;
 use crate::problem::Problem;
 use std::path::Path;
 use xcoff::{Image, Module, Plan, Reached, Refusal};
@@ -69,20 +70,33 @@ impl<'p> Loaded<'p> {
         answer.map_err(|refusal| Problem::refused(self.with(sheet, &refusal), refusal))
     }
 
-    /// "SHEET for FILE", with the counts where these are what is refused.
+    /// "SHEET for FILE", with the values that are refused.
     pub fn with(&self, sheet: &Sheet, refusal: &Refusal) -> String {
         let both = format!(
             "{} for {}",
             escape::argument(sheet.path),
             escape::argument(self.path)
         );
+        format!("{both}{}", self.plan_values(&sheet.plan, refusal))
+    }
+
+    /// What a plan has where it is refused, in parentheses.
+    pub fn plan_values(&self, plan: &Plan, refusal: &Refusal) -> String {
+        let m = &self.module;
         match (refusal.number, refusal.item) {
+            (19, 0) => format!(" (text at {:x}, {} bytes)", plan.text, m.text.size),
+            (19, 1) => format!(" (data at {:x}, {} bytes)", plan.data, m.image),
+            (19, i) => match plan.list.get((i as usize).wrapping_sub(3)) {
+                Some(address) => format!(" (loader symbol {i} at {address:x})"),
+                None => String::new(),
+            },
             (20, 2) => format!(
-                "{both} (addresses: {}, loader symbols: {})",
-                sheet.plan.list.len(),
-                self.module.symbols
+                " (addresses: {}, loader symbols: {})",
+                plan.list.len(),
+                m.symbols
             ),
-            _ => both,
+            (24, _) => format!(" ({})", self.ranges(plan)),
+            _ => String::new(),
         }
     }
 }
@@ -90,7 +104,11 @@ impl<'p> Loaded<'p> {
 impl<'p> Sheet<'p> {
     pub fn read(path: &'p Path) -> Result<Sheet<'p>, Problem> {
         let bytes = files::read(path, files::SHEET)?;
-        let plan = refused(path, xcoff::read_sheet(&bytes))?;
+        let plan = xcoff::read_sheet(&bytes).map_err(|refusal| Problem::Refused {
+            about: escape::argument(path),
+            refusal,
+            shown: kinds::sheet_lines(&bytes),
+        })?;
         Ok(Sheet { path, plan })
     }
 

@@ -15,30 +15,39 @@ mod found;
 mod given;
 mod images;
 mod imports;
+mod kinds;
+mod line;
+mod lined;
 mod listing;
 mod lists;
 mod load;
+mod lock;
+mod near;
 mod output;
+mod pages;
 mod plans;
 mod problem;
 mod records;
+mod salvage;
 mod shown;
 mod syntax;
+mod values;
+mod warnings;
 mod words;
 
 use args::Arguments;
 use problem::Problem;
-use std::ffi::OsString;
-use std::io::Write;
+use std::ffi::{OsStr, OsString};
 use std::process::ExitCode;
-use syntax::Command;
+use syntax::{Command, COMMANDS};
 
 fn main() -> ExitCode {
-    match run(std::env::args_os().skip(1).collect()) {
+    let words: Vec<OsString> = std::env::args_os().skip(1).collect();
+    let json = has_option(&words, "--json");
+    match run(words) {
         Ok(()) => ExitCode::SUCCESS,
         Err(problem) => {
-            // Standard error may be closed: the status is then all that can be told.
-            let _ = write!(std::io::stderr(), "{problem}");
+            problem.tell(json);
             ExitCode::from(problem.status())
         }
     }
@@ -49,30 +58,43 @@ fn run(mut words: Vec<OsString>) -> Result<(), Problem> {
         return Err(no_command("a command is missing".to_string()));
     }
     let first = words.remove(0);
-    if first == "--help" || first == "-h" {
-        return print_text(&syntax::overview());
+    if first == "--help" || first == "-h" || first == "help" {
+        return help(&words);
     }
-    if first == "--version" || first == "-V" {
+    if first == "--version" || first == "-V" || first == "version" {
         return print_text(concat!("xcoff ", env!("CARGO_PKG_VERSION"), "\n"));
     }
-    let Some(command) = Command::named(&first) else {
-        return Err(no_command(format!(
-            "unknown command {}",
-            escape::argument(&first)
-        )));
-    };
-    if asks_for_help(&words) {
+    let command = named(&first)?;
+    // Anywhere among the options, since who asks for help has not got the rest right.
+    if has_option(&words, "--help") || has_option(&words, "-h") {
         return print_text(&command.help_text());
     }
     (command.run)(&Arguments::parse(command, words)?)
 }
 
-/// Anywhere among the options, since who asks for help has not got the rest right.
-fn asks_for_help(words: &[OsString]) -> bool {
-    words
-        .iter()
-        .take_while(|&word| word != "--")
-        .any(|word| word == "--help" || word == "-h")
+/// `help`, `help COMMAND`; for those who install the command also `help --man`, `help --man COMMAND` and `help --bash`.
+fn help(words: &[OsString]) -> Result<(), Problem> {
+    print_text(&match words {
+        [] => syntax::overview(),
+        [bash] if bash == "--bash" => pages::bash(),
+        [man] if man == "--man" => pages::man(None),
+        [man, name, ..] if man == "--man" => pages::man(Some(named(name)?)),
+        [name, ..] => named(name)?.help_text(),
+    })
+}
+
+fn named(name: &OsStr) -> Result<&'static Command, Problem> {
+    Command::named(name).ok_or_else(|| {
+        let known = COMMANDS.iter().map(|command| command.name);
+        let near = name.to_str().and_then(|name| near::nearest(name, known));
+        let meant = near.map_or(String::new(), |near| format!("; did you mean '{near}'?"));
+        no_command(format!("unknown command {}{meant}", escape::argument(name)))
+    })
+}
+
+fn has_option(words: &[OsString], name: &str) -> bool {
+    let mut options = words.iter().take_while(|&word| word != "--");
+    options.any(|word| word == name)
 }
 
 fn no_command(text: String) -> Problem {

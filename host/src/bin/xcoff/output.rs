@@ -3,17 +3,21 @@
 use crate::escape;
 use crate::problem::Problem;
 use crate::shown;
-use std::io::{self, BufWriter, Write};
+use crate::values;
+use std::io::{self, BufWriter, ErrorKind, Write};
 use std::path::Path;
 use xcoff::{Reached, Refusal};
 
-/// Prints; a full disk or a closed pipe is a problem like any other.
+/// Prints; a full disk is a problem like any other. Whoever closed the pipe, as `head` does, wants no more: it ends there.
 pub fn print(write: impl FnOnce(&mut dyn Write) -> io::Result<()>) -> Result<(), Problem> {
     let mut out = BufWriter::with_capacity(1 << 16, io::stdout().lock());
     let done = write(&mut out).and_then(|()| out.flush());
     // What could not be written is not tried again.
     let _ = out.into_parts();
-    done.map_err(|e| Problem::system("cannot write standard output", &e))
+    done.map_err(|e| match e.kind() {
+        ErrorKind::BrokenPipe => Problem::Closed,
+        _ => Problem::system("cannot write standard output", &e),
+    })
 }
 
 /// Prints one line.
@@ -24,10 +28,22 @@ pub fn say(line: &str) -> Result<(), Problem> {
 /// Prints one line about files that are written. Where that fails, whoever reads the reason must not take them for
 /// the old ones.
 pub fn say_done(line: &str) -> Result<(), Problem> {
-    say(line).map_err(|problem| match problem {
+    print_done(line, |out| writeln!(out, "{line}"))
+}
+
+/// The same where what is printed has another form.
+pub fn print_done(
+    line: &str,
+    write: impl FnOnce(&mut dyn Write) -> io::Result<()>,
+) -> Result<(), Problem> {
+    print(write).map_err(|problem| match problem {
         Problem::System { doing, reason } => Problem::System {
             doing: format!("{line}; but {doing}"),
             reason,
+        },
+        Problem::Closed => Problem::System {
+            doing: format!("{line}; but cannot write standard output"),
+            reason: "the pipe is closed".to_string(),
         },
         other => other,
     })
@@ -40,11 +56,27 @@ pub fn refused<T>(path: &Path, answer: Result<T, Refusal>) -> Result<T, Problem>
 
 /// An answer about an XCOFF file: what stands where a refusal points is shown.
 pub fn refused_in<T>(path: &Path, file: &[u8], answer: Result<T, Refusal>) -> Result<T, Problem> {
+    refused_about(|| escape::argument(path), file, answer)
+}
+
+/// The same about a part of a file.
+pub fn refused_about<T>(
+    about: impl FnOnce() -> String,
+    file: &[u8],
+    answer: Result<T, Refusal>,
+) -> Result<T, Problem> {
     answer.map_err(|refusal| Problem::Refused {
-        about: escape::argument(path),
+        about: about(),
         refusal,
-        shown: shown::lines(file, &refusal),
+        shown: shown_of(file, &refusal),
     })
+}
+
+/// What stands where a refusal points, and the values that a rule with several alternatives speaks of.
+fn shown_of(file: &[u8], refusal: &Refusal) -> Vec<String> {
+    let mut lines = shown::lines(file, refusal);
+    lines.extend(values::lines(file, refusal));
+    lines
 }
 
 /// The entry and TOC addresses that a call reached.

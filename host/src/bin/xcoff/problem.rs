@@ -1,7 +1,10 @@
 //! What can go wrong, and the one place that gives it words and an exit status.
 
+use crate::listing::push_json_text;
+use crate::output::print;
 use crate::syntax::Command;
 use std::fmt;
+use std::io::Write;
 use xcoff::Refusal;
 
 pub enum Problem {
@@ -17,10 +20,14 @@ pub enum Problem {
         /// Lines that show what is refused.
         shown: Vec<String>,
     },
-    /// Images are not what they should be: a line for each thing to say.
+    /// What was given is not what it should be, as images that are not the plan's: a line for each thing to say.
     Unequal(Vec<String>),
     /// The system refuses.
     System { doing: String, reason: String },
+    /// Whoever reads the output has closed it: there is nothing to say.
+    Closed,
+    /// Said already, of one of several files: the status that is left.
+    Told(u8),
 }
 
 impl Problem {
@@ -28,8 +35,45 @@ impl Problem {
         match self {
             Problem::Refused { .. } | Problem::Unequal(_) => 1,
             Problem::Usage { .. } => 2,
-            Problem::System { .. } => 3,
+            Problem::System { .. } | Problem::Closed => 3,
+            Problem::Told(status) => *status,
         }
+    }
+
+    /// Says it on standard error; with `--json` also as an object on standard output, after what was listed.
+    pub fn tell(&self, json: bool) {
+        // Standard error may be closed: the status is then all that can be told.
+        let _ = write!(std::io::stderr(), "{self}");
+        if json {
+            let _ = print(|out| {
+                self.object()
+                    .map_or(Ok(()), |object| writeln!(out, "{object}"))
+            });
+        }
+    }
+
+    /// None where there is nothing to say, and of a command line that makes no sense.
+    fn object(&self) -> Option<String> {
+        let mut line = String::new();
+        match self {
+            Problem::Usage { .. } | Problem::Closed | Problem::Told(_) => return None,
+            Problem::Refused { about, refusal, .. } => {
+                let (number, item, offset) = (refusal.number, refusal.item, refusal.offset);
+                line.push_str("{\"table\":\"refusal\",\"about\":");
+                push_json_text(&mut line, about);
+                let numbers = format!(",\"number\":{number},\"item\":{item},\"offset\":{offset}");
+                line.push_str(&numbers);
+                line.push_str(",\"rule\":");
+                push_json_text(&mut line, refusal.name());
+                line.push_str(",\"meaning\":");
+                push_json_text(&mut line, &refusal.meaning());
+            }
+            _ => line.push_str("{\"table\":\"problem\""),
+        }
+        line.push_str(&format!(",\"status\":{},\"text\":", self.status()));
+        push_json_text(&mut line, self.to_string().trim_end());
+        line.push('}');
+        Some(line)
     }
 
     pub fn usage(command: &'static Command, text: impl Into<String>) -> Problem {
@@ -90,6 +134,7 @@ impl fmt::Display for Problem {
             }
             Problem::Unequal(lines) => write_lines(f, lines),
             Problem::System { doing, reason } => writeln!(f, "xcoff: {doing}: {reason}"),
+            Problem::Closed | Problem::Told(_) => Ok(()),
         }
     }
 }

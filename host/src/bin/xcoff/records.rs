@@ -5,17 +5,22 @@ use crate::compare::Beside;
 use crate::escape;
 use crate::files;
 use crate::found::{Found, RecordText};
-use crate::images::write;
+use crate::images::Made;
+use crate::kinds::{may_replace, Written};
 use crate::load::{apart, Loaded, Sheet};
+use crate::lock;
 use crate::output::{entry_words, say_done};
 use crate::problem::Problem;
+use crate::warnings;
 use std::slice;
 
 pub fn records(args: &Arguments) -> Result<(), Problem> {
     let out = args.paths("-o").expect("the syntax asks for it")[0];
     let images = args.paths("--images");
-    if args.has("--unchecked") && images.is_none() {
-        return Err(args.wrong("--unchecked goes with --images TEXT DATA".to_string()));
+    for option in ["--unchecked", "--keep-changes"] {
+        if args.has(option) && images.is_none() {
+            return Err(args.wrong(format!("{option} goes with --images TEXT DATA")));
+        }
     }
     let mut inputs = vec![("FILE", args.path(0)), ("SHEET", args.path(1))];
     if let Some(images) = &images {
@@ -23,28 +28,34 @@ pub fn records(args: &Arguments) -> Result<(), Problem> {
     }
     apart(args, &[("RECORDS", out)], &inputs)?;
 
+    let mut locked = vec![out];
+    locked.extend(images.iter().flatten());
+    let _lock = lock::to_write(args, &locked)?;
     let file = Loaded::read(args.path(0))?;
     let sheet = Sheet::read(args.path(1))?;
     let (built, reached) = file.build_sheet(&sheet)?;
-    let text = match images {
+    let found = images.map(|images| Found::read(images[0], images[1]));
+    let found = found.transpose()?;
+    let text = match &found {
         None => file.with_sheet(&sheet, built.records(&file, &sheet))?,
-        Some(images) => {
-            let found = Found::read(images[0], images[1])?;
+        Some(found) => {
             let text = found.records(&file, &sheet)?;
-            check_fields(args, &file, &sheet, &found)?;
+            check_images(args, &file, &sheet, found)?;
             text
         }
     };
-    files::replace(&[(out, &text)])?;
-    let d = file.digits();
+    may_replace(args, out, Written::Records)?;
+    files::replace_if(&[(out, &text)], || {
+        found.as_ref().map_or(Ok(()), Found::unchanged)
+    })?;
+    warnings::of_sheet(&file, &sheet)?;
     say_done(&format!(
-        "wrote {} ({} bytes, {} lines): text {:0d$x}, data {:0d$x}, {}",
+        "wrote {} ({} bytes, {} lines): {}, {}",
         escape::argument(out),
         text.len(),
         text.iter().filter(|&&byte| byte == b'\n').count(),
-        sheet.plan.text,
-        sheet.plan.data,
-        entry_words(&reached, d)
+        file.ranges(&sheet.plan),
+        entry_words(&reached, file.digits())
     ))
 }
 
@@ -56,17 +67,28 @@ pub fn images(args: &Arguments) -> Result<(), Problem> {
         ("RECORDS", args.path(2)),
     ];
     apart(args, &[("TEXT", out[0]), ("DATA", out[1])], &inputs)?;
+    let _lock = lock::to_write(args, &out)?;
     let file = Loaded::read(args.path(0))?;
     let sheet = Sheet::read(args.path(1))?;
     let records = RecordText::read(args.path(2), &file, slice::from_ref(&sheet))?;
     let found = records.images(&file, &sheet)?;
-    check_fields(args, &file, &sheet, &found)?;
+    check_images(args, &file, &sheet, &found)?;
     let (_, reached) = file.build_sheet(&sheet)?;
-    write("wrote", &file, [out[0], out[1]], &found.pair, &reached)
+    let made = Made {
+        done: "wrote",
+        file: &file,
+        sheet: &sheet,
+        out: [out[0], out[1]],
+        pair: &found.pair,
+        reached: &reached,
+    };
+    made.write(args, || Ok(()))?;
+    warnings::of_sheet(&file, &sheet)?;
+    made.say(args)
 }
 
 /// Images for another plan are no images for this one: on the card they fail without a sign of it.
-fn check_fields(
+fn check_images(
     args: &Arguments,
     file: &Loaded,
     sheet: &Sheet,
@@ -76,9 +98,8 @@ fn check_fields(
         return Ok(());
     }
     let beside = Beside::new(file, sheet, found)?;
-    if beside.fields_equal() {
-        beside.warn();
-        return Ok(());
+    match beside.fields_equal() {
+        true => beside.all_equal_or_kept(args.has("--keep-changes")),
+        false => Err(beside.not_its_fields(None)),
     }
-    Err(beside.not_its_fields(None))
 }

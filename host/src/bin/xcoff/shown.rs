@@ -2,7 +2,7 @@
 //! speaks of.
 
 use crate::listing::{number, word, Cell, Listing};
-use xcoff::{places, FieldValue, Place, Refusal};
+use xcoff::{places, FieldValue, FileRange, Place, Refusal};
 
 /// Bytes in a line of the dump.
 const LINE: usize = 16;
@@ -11,6 +11,12 @@ const LINE: usize = 16;
 pub fn lines(file: &[u8], refusal: &Refusal) -> Vec<String> {
     let places = places(file, refusal);
     places.iter().flat_map(place_lines).collect()
+}
+
+/// Pairs of parts of a file that share bytes.
+pub fn shared(pairs: &[(FileRange, FileRange)]) -> Vec<String> {
+    let line = |(one, other): &(FileRange, FileRange)| format!("  {one} and {other}");
+    pairs.iter().map(line).collect()
 }
 
 fn place_lines(place: &Place) -> Vec<String> {

@@ -2,7 +2,7 @@
 
 use crate::args::Arguments;
 use crate::problem::Problem;
-use crate::{check, images, lists, plans, records};
+use crate::{check, images, line, lined, lists, plans, records, salvage};
 
 pub struct Command {
     pub name: &'static str,
@@ -50,6 +50,10 @@ const fn repeated(name: &'static str, values: &'static [&'static str]) -> Flag {
 
 static JSON: [Flag; 1] = [flag("--json", &[])];
 
+/// Options of the commands that write: to end at once where another command is at work, to replace a file of another kind.
+const NO_WAIT: Flag = flag("--no-wait", &[]);
+const FORCE: Flag = flag("--force", &[]);
+
 /// A command that lists a file.
 const fn lister(
     name: &'static str,
@@ -59,9 +63,9 @@ const fn lister(
 ) -> Command {
     Command {
         name,
-        usage: "FILE [--json]",
+        usage: "FILE... [--json]",
         operands: &["FILE"],
-        optional: 0,
+        optional: usize::MAX,
         options: &JSON,
         summary,
         help,
@@ -69,7 +73,7 @@ const fn lister(
     }
 }
 
-pub static COMMANDS: [Command; 12] = [
+pub static COMMANDS: [Command; 15] = [
     lister(
         "headers",
         "the file header and the sections",
@@ -95,7 +99,7 @@ pub static COMMANDS: [Command; 12] = [
         lists::imports,
     ),
     Command {
-        usage: "FILE [--follows text|data|IMPORT] [--json]",
+        usage: "FILE... [--follows text|data|IMPORT] [--json]",
         options: &[
             flag("--follows", &["text|data|IMPORT"]),
             flag("--json", &[]),
@@ -108,8 +112,27 @@ pub static COMMANDS: [Command; 12] = [
         )
     },
     Command {
+        usage: "FILE... [--section N] [--json]",
+        options: &[flag("--section", &["N"]), flag("--json", &[])],
+        ..lister("lines", "the line number tables", LINES, lined::lines)
+    },
+    Command {
+        name: "line",
+        usage: "FILE [--sheet SHEET] [--section N] [--json] ADDRESS...",
+        operands: &["FILE", "ADDRESS"],
+        optional: usize::MAX,
+        options: &[
+            flag("--sheet", &["SHEET"]),
+            flag("--section", &["N"]),
+            flag("--json", &[]),
+        ],
+        summary: "the line of an address",
+        help: LINE,
+        run: line::line,
+    },
+    Command {
         name: "plan",
-        usage: "FILE [--text HEX] [--data HEX] [--import NAME=HEX]... [--imports IMPORTS] -o SHEET",
+        usage: "FILE [--text HEX] [--data HEX] [--import NAME=HEX]... [--imports IMPORTS] [--from OLD] [--recorded] -o SHEET [--force] [--no-wait]",
         operands: &["FILE"],
         optional: 0,
         options: &[
@@ -117,7 +140,11 @@ pub static COMMANDS: [Command; 12] = [
             flag("--data", &["HEX"]),
             repeated("--import", &["NAME=HEX"]),
             flag("--imports", &["IMPORTS"]),
+            flag("--from", &["OLD"]),
+            flag("--recorded", &[]),
             required("-o", &["SHEET"]),
+            FORCE,
+            NO_WAIT,
         ],
         summary: "writes a plan sheet: the addresses of one card",
         help: PLAN,
@@ -135,32 +162,46 @@ pub static COMMANDS: [Command; 12] = [
     },
     Command {
         name: "build",
-        usage: "FILE SHEET -o TEXT DATA",
+        usage: "FILE SHEET -o TEXT DATA [--force] [--no-wait] [--json]",
         operands: &["FILE", "SHEET"],
         optional: 0,
-        options: &[required("-o", &["TEXT", "DATA"])],
+        options: &[
+            required("-o", &["TEXT", "DATA"]),
+            FORCE,
+            NO_WAIT,
+            flag("--json", &[]),
+        ],
         summary: "builds the text and data images for a sheet",
         help: BUILD,
         run: images::build,
     },
     Command {
         name: "move",
-        usage: "FILE FROM TO TEXT DATA [-o TEXT2 DATA2] [--unchecked]",
+        usage: "FILE FROM TO TEXT DATA [-o TEXT2 DATA2] [--keep-changes | --unchecked] [--force] [--no-wait] [--json]",
         operands: &["FILE", "FROM", "TO", "TEXT", "DATA"],
         optional: 0,
-        options: &[flag("-o", &["TEXT2", "DATA2"]), flag("--unchecked", &[])],
+        options: &[
+            flag("-o", &["TEXT2", "DATA2"]),
+            flag("--keep-changes", &[]),
+            flag("--unchecked", &[]),
+            FORCE,
+            NO_WAIT,
+            flag("--json", &[]),
+        ],
         summary: "moves images from one sheet to another",
         help: MOVE,
         run: images::move_images,
     },
     Command {
         name: "check",
-        usage: "FILE SHEET {TEXT DATA | --records RECORDS} [--or SHEET]...",
+        usage: "FILE SHEET {TEXT DATA | --records RECORDS} [--or SHEET]... [--no-wait] [--json]",
         operands: &["FILE", "SHEET"],
         optional: 2,
         options: &[
             flag("--records", &["RECORDS"]),
             repeated("--or", &["SHEET"]),
+            NO_WAIT,
+            flag("--json", &[]),
         ],
         summary: "says whether images or records are those of a sheet",
         help: CHECK,
@@ -168,13 +209,16 @@ pub static COMMANDS: [Command; 12] = [
     },
     Command {
         name: "records",
-        usage: "FILE SHEET [--images TEXT DATA [--unchecked]] -o RECORDS",
+        usage: "FILE SHEET [--images TEXT DATA [--keep-changes | --unchecked]] -o RECORDS [--force] [--no-wait]",
         operands: &["FILE", "SHEET"],
         optional: 0,
         options: &[
             flag("--images", &["TEXT", "DATA"]),
+            flag("--keep-changes", &[]),
             flag("--unchecked", &[]),
             required("-o", &["RECORDS"]),
+            FORCE,
+            NO_WAIT,
         ],
         summary: "writes images as S-records for a PROM programmer",
         help: RECORDS,
@@ -182,13 +226,36 @@ pub static COMMANDS: [Command; 12] = [
     },
     Command {
         name: "images",
-        usage: "FILE SHEET RECORDS [--unchecked] -o TEXT DATA",
+        usage: "FILE SHEET RECORDS [--keep-changes | --unchecked] -o TEXT DATA [--force] [--no-wait] [--json]",
         operands: &["FILE", "SHEET", "RECORDS"],
         optional: 0,
-        options: &[flag("--unchecked", &[]), required("-o", &["TEXT", "DATA"])],
+        options: &[
+            flag("--keep-changes", &[]),
+            flag("--unchecked", &[]),
+            required("-o", &["TEXT", "DATA"]),
+            FORCE,
+            NO_WAIT,
+            flag("--json", &[]),
+        ],
         summary: "reads S-records back into images",
         help: IMAGES,
         run: records::images,
+    },
+    Command {
+        name: "salvage",
+        usage: "FILE -o COPY [--report REPORT] [--force] [--no-wait] [--json]",
+        operands: &["FILE"],
+        optional: 0,
+        options: &[
+            required("-o", &["COPY"]),
+            flag("--report", &["REPORT"]),
+            FORCE,
+            NO_WAIT,
+            flag("--json", &[]),
+        ],
+        summary: "copies a file and mends its damaged symbols",
+        help: SALVAGE,
+        run: salvage::salvage,
     },
 ];
 
@@ -198,7 +265,27 @@ impl Command {
     }
 
     pub fn help_text(&self) -> String {
-        format!("usage: xcoff {} {}\n\n{}", self.name, self.usage, self.help)
+        format!("{}\n\n{}", self.usage_lines(), self.help)
+    }
+
+    /// Broken before an option where a line gets long.
+    fn usage_lines(&self) -> String {
+        let mut lines = format!("usage: xcoff {}", self.name);
+        let mut width = lines.len();
+        for part in self.usage.split(" [") {
+            let part = match part == self.usage.split(" [").next().unwrap_or("") {
+                true => part.to_string(),
+                false => format!("[{part}"),
+            };
+            if width + 1 + part.len() > 84 {
+                lines.push_str("\n            ");
+                width = 12;
+            }
+            lines.push(' ');
+            lines.push_str(&part);
+            width += 1 + part.len();
+        }
+        lines
     }
 }
 
@@ -212,6 +299,13 @@ pub fn overview() -> String {
     text
 }
 
+/// What the numbers mean that a command ends with.
+pub fn exit_status() -> &'static str {
+    let paragraphs = OVERVIEW_END.split("\n\n");
+    let mut own = paragraphs.filter_map(|words| words.strip_prefix("Exit status: "));
+    own.next().expect("the overview has them")
+}
+
 const OVERVIEW_START: &str = "\
 usage: xcoff COMMAND ARGUMENT...
 
@@ -222,30 +316,35 @@ S-records for a PROM programmer.
 ";
 
 const OVERVIEW_END: &str = "
-  xcoff COMMAND --help   says more about a command, with an example
-  xcoff --version        prints the version
+  xcoff help COMMAND     says more about a command, with an example
+  xcoff version          prints the version
 
-Exit status: 0 done; 1 refused by a rule, or images that are not the plan's;
-2 a command line that makes no sense; 3 refused by the system (a file that is
-missing or unreadable, a full disk, a closed pipe).
+Exit status: 0 done; 1 refused by a rule, or something given that is not what it
+should be, as images that are not the plan's; 2 a command line that makes no sense;
+3 refused by the system (a file that is missing or unreadable, a full disk, a closed
+pipe, a folder in which another xcoff writes).
 
 A refusal is a line on standard error with 'refused N I O': the number of the
 rule, the item it names and that item's offset in the file, 0 where it is not in
 the file; then the rule's name and what it means. Below it stand the bytes of the
-header or entry that is named, as a hex dump has them, and the fields that the
+header or entry that is named, as a hex dump has them, and the values that the
 rule speaks of.
 
 In listings, addresses, types and flags are hexadecimal, sizes, offsets and
 counts decimal. Names are bytes of the file: a blank, a quote or a byte that
 does not print is \\xNN, a backslash \\\\, the empty name \"\"; a name over 256
-bytes is cut and ends in \\... instead. With --json each row is one object.
+bytes is cut and ends in \\... instead. Of several files each is listed under its
+name. With --json each row is one object, and so is a refusal, after the rows.
 ";
 
 const HEADERS: &str = "\
 Lists the file header (its sections, the entries of its symbol table, the bytes
 of its auxiliary header, its flags) and every section header: the section's
 number, its kind, its physical and virtual address, its size in bytes, where its
-raw data lies in the file and whether there is any, and its name.
+raw data lies in the file and whether there is any, where its relocation table
+and its line number table lie and how many entries each has ('relptr', 'nreloc',
+'lnnoptr', 'nlnno'), and its name. The counts are those of the header: 65535 of an
+XCOFF32 file may stand for the count in an overflow header ('ovrflo').
 
   xcoff headers diag.xcoff
 
@@ -292,7 +391,7 @@ a symbol means a deferred import, which no plan gives an address.
 
 const RELOCATIONS: &str = "\
 Lists the relocation entries in the order of the table: the field's recorded
-address, its image and the offset in it, its bits, whether what the symbol moves
+address, the image and the offset in it, its bits, whether what the symbol moves
 by is added or subtracted, the type, and the symbol (0 text, 1 data, 2 bss, from
 3 a loader symbol). Only these fields depend on a plan.
 
@@ -310,14 +409,53 @@ by is added or subtracted, the type, and the symbol (0 text, 1 data, 2 bss, from
 --json            one object a line
 ";
 
+const LINES: &str = "\
+Lists the line number tables of the text sections whole. An entry with line 0 begins
+a function: 'symbol' is the index of its symbol, 'function' its name. Every other has
+the address where the code of a line begins, and the line, 'relative' to the start of
+the function as the table has it. 'absolute' is the line in the source file, where
+the function's .bf symbol says in which line the function starts, else '-'.
+
+  xcoff lines diag.o
+
+--section N  only the table of text section N
+--json       one object a line; what is 'relative' is 'line' there
+";
+
+const LINE: &str = "\
+Finds the line of each address: the entry of the line number table with the greatest
+address not above it, the first such in the table. 'asked' is the address as given,
+'address' where the entry's code begins in the file's own addresses, 'relative' the
+line as the table has it, counted from the start of the function. 'absolute' is the
+line in the source file, where the function's .bf symbol says in which line the
+function starts; 'source' is that file, where a .file symbol names it; else '-'.
+
+  xcoff line diag.xcoff --sheet card7.sheet 10010 1004c
+  xcoff line diag.o 1c
+
+The table is that of the text section that holds the address. An address in no text
+section, or below the first line, has no line: exit status 1. Of several addresses
+each has a row, empty where there is no line, and the reasons are on standard error.
+
+-              for ADDRESS: an address on each line of standard input; each is
+               answered as it comes
+--sheet SHEET  the addresses are those of the card that the sheet is for; without
+               it they are the file's own
+--section N    the table of text section N, wherever the address lies
+--json         one object a line; what is 'relative' is 'line' there
+";
+
 const PLAN: &str = "\
 Writes a plan sheet for a module: where its text, its data and its imports are in
-one card's memory. What is not given is as recorded in the file, which for an
-import is mostly 0: 'xcoff imports FILE' lists them, 'xcoff sheet SHEET FILE' shows
-what each got. A sheet that a build would refuse is not written; whether images
-overlap on the card is not looked at.
+one card's memory. What is not given is as recorded in the file. An import that
+would be at address 0 because nobody gave it is most likely forgotten: such imports
+are listed, no sheet is written and the exit status is 1. 'xcoff imports FILE' lists
+all, 'xcoff sheet SHEET FILE' shows what each got. A sheet that a build would refuse
+is not written. Images that overlap on the card, and addresses that are not aligned
+as the module's own, are warned of.
 
   xcoff plan diag.xcoff --text 10000 --data 80000 --import puts=fff01200 -o card7.sheet
+  xcoff plan diag.xcoff --from card7.sheet --data c0000 -o card9.sheet
 
 --text HEX           the text image's address, with or without 0x before it
 --data HEX           the data image's address; bss moves with it
@@ -327,13 +465,19 @@ overlap on the card is not looked at.
 --imports IMPORTS    a file with addresses of imports, each on a line of its own:
                      NAME HEX or @INDEX HEX. Lines that are empty or begin with #
                      are left out. An import may be given once, here or there
+--from OLD           an older sheet of the module: what is not given is as there
+--recorded           leaves imports at address 0 where nobody gave another
 -o SHEET             the sheet to write; an old one is replaced whole
+--force              replaces an XCOFF file too
+--no-wait            ends, with status 3, where another xcoff writes in the folder
 ";
 
 const SHEET: &str = "\
 Prints a plan sheet. With FILE, the module that it is for, also which loader symbol
-each address belongs to; a sheet that does not fit the module is refused. A sheet
-does not name its module: one of another module with as many loader symbols fits.
+each address belongs to; the places of symbols that take no address are shown as
+'-'. A sheet that does not fit the module is refused. A sheet does not name its
+module: one of another module with as many loader symbols fits, and is warned of
+where what 'plan' writes into the places that are ignored is not this module's.
 Old sheets, with counts of 2 bytes, are read as well as those that plan writes.
 
   xcoff sheet card7.sheet diag.xcoff
@@ -344,26 +488,37 @@ Old sheets, with counts of 2 bytes, are read as well as those that plan writes.
 const BUILD: &str = "\
 Builds a module's text and data images for a plan sheet and writes them to TEXT
 and DATA. Both files are written beside, synced and then renamed, so that neither
-is ever seen half-written; old files are replaced. A symbolic link is followed.
+is ever seen half-written; old files are replaced. A symbolic link is followed. The
+line printed has the addresses at which the images are to be written on the card.
+Images that overlap, addresses that are not aligned as the module's own, and a sheet
+that was probably made for another module are warned of.
 
   xcoff build diag.xcoff card7.sheet -o card7.text card7.data
 
 -o TEXT DATA  the files to write
+--force       replaces an XCOFF file or a sheet too
+--no-wait     ends, with status 3, where another xcoff writes in the folder
+--json        prints one object a line
 ";
 
 const MOVE: &str = "\
 Moves the images in TEXT and DATA from the plan of the sheet FROM to that of TO, in
 place or, with -o, into other files. FROM must be the sheet that they are for:
-moving images a second time makes wrong ones. So the relocated fields are compared
-with those of FROM first; where they differ the command shows them, changes nothing
-and exits with 1. Other bytes that are not the module's are kept, with a warning.
-'xcoff check' with --or finds the sheet that images are for, 'xcoff build' makes
-them anew.
+moving images a second time makes wrong ones. So they are compared with those of
+FROM first, byte for byte; where they differ the command says how and which of the
+two sheets they are for, changes nothing and exits with 1. 'xcoff check' with --or
+finds the sheet that images are for, 'xcoff build' makes them anew. Another xcoff
+that writes in the folder is waited for.
 
   xcoff move diag.xcoff card7.sheet card9.sheet card7.text card7.data -o card9.text card9.data
 
 -o TEXT2 DATA2  the files to write; without it TEXT and DATA are replaced
+--keep-changes  bytes outside the relocated fields may differ, as where the card's
+                program wrote; they are kept, with a warning that says where
 --unchecked     moves the images whatever they hold
+--force         replaces an XCOFF file or a sheet too
+--no-wait       ends, with status 3, where another xcoff writes in the folder
+--json          prints one object a line
 ";
 
 const CHECK: &str = "\
@@ -380,6 +535,8 @@ wrong length, or a record that is not as 'xcoff records' writes it, is refused.
 --records RECORDS  a file of S-records, instead of TEXT and DATA
 --or SHEET         another plan that the images may be for; 0 is for any of them,
                    and the line printed says which
+--no-wait          ends, with status 3, where another xcoff writes in the folder
+--json             prints one object a line
 ";
 
 const RECORDS: &str = "\
@@ -390,26 +547,56 @@ address are refused. The file is written beside, synced and then renamed.
 
   xcoff records diag.xcoff card7.sheet -o card7.srec
 
-With --images, images that were built before are written as they are. Their
-relocated fields must be the sheet's, or the command shows them, writes nothing and
-exits with 1. Other bytes that are not the module's are kept, with a warning.
+With --images, images that were built before are written. They must be exactly the
+sheet's, or the command says how they differ, writes nothing and exits with 1.
 
 -o RECORDS          the file to write; an old one is replaced whole
 --images TEXT DATA  the images, instead of a build
+--keep-changes      with --images: bytes outside the relocated fields may differ;
+                    they are written as they are, with a warning that says where
 --unchecked         with --images: writes the images whatever they hold
+--force             replaces an XCOFF file or a sheet too
+--no-wait           ends, with status 3, where another xcoff writes in the folder
 ";
 
 const IMAGES: &str = "\
 Reads S-records into the two images of a module and writes these to TEXT and DATA.
 The records must be exactly those that 'xcoff records' writes for the sheet, but for
 the data bytes, which may be any: the first line that is not is refused (22 RECORD)
-and shown as the file has it, beside that of the sheet's own images. The relocated
-fields must be the sheet's, or the command shows them, writes nothing and exits with
-1. Other bytes that are not the module's are kept, with a warning. So without a
-warning the images are exactly those of the sheet.
+and shown as the file has it, beside that of the sheet's own images. The images must
+be exactly the sheet's, or the command says how they differ, writes nothing and
+exits with 1.
 
   xcoff images diag.xcoff card7.sheet card7.srec -o card7.text card7.data
 
--o TEXT DATA  the files to write; old ones are replaced whole
---unchecked   writes the images whatever they hold
+-o TEXT DATA    the files to write; old ones are replaced whole
+--keep-changes  bytes outside the relocated fields may differ, as where the card's
+                program wrote; they are kept, with a warning that says where
+--unchecked     writes the images whatever they hold
+--force         replaces an XCOFF file or a sheet too
+--no-wait       ends, with status 3, where another xcoff writes in the folder
+--json          prints one object a line
+";
+
+const SALVAGE: &str = "\
+Writes a copy of a file in which no symbol is refused any more, so that 'xcoff
+symbols' lists all of them. A symbol that is refused for its name gets the empty
+name, for its section section 0, for its auxiliary entries those that are left up
+to the table's end, for its visibility none; one symbol may need several. Every
+other bit of the copy is the file's. Each change is listed: the symbol's index, what
+it was refused for, the field and its offset in the file, what stood there and what
+stands there now. A file whose symbol table shares bytes with its headers or a debug
+section is refused (29 SHARED): a change there would damage these.
+
+The copy is opened and walked again before it is written. FILE itself is never
+changed, and another XCOFF file is replaced with --force only.
+
+  xcoff salvage card3.xcoff -o card3.mended
+
+-o COPY          the copy to write
+--report REPORT  a file for the changes, 8 bytes each: the symbol's index and the
+                 number of the refusal (9 AUX, 10 NAME, 11 SECTION, 30 VISIBILITY)
+--force          replaces an XCOFF file or a sheet too
+--no-wait        ends, with status 3, where another xcoff writes in the folder
+--json           one object a line: the copy, then each change; 'refused' is the number
 ";

@@ -1,0 +1,3 @@
+-- What the contracts of `salvage` cite.
+pub mod Salvage
+pub mod Answer

@@ -1,0 +1,2 @@
+-- What the contracts of `shared_symbols` cite.
+pub mod Shared
