@@ -12,3 +12,5 @@ pub mod Loaded
 pub mod Rebases
 pub mod Outside
 pub mod Theorem
+pub mod Reports
+pub mod Operation
