@@ -14,3 +14,4 @@ pub mod Outside
 pub mod Theorem
 pub mod Reports
 pub mod Operation
+pub mod Named
