@@ -415,6 +415,15 @@ xcoff_verdict xcoff_read_records(const uint8_t *file, size_t length, uint64_t te
                                  uint8_t *text, size_t text_length, uint8_t *data, size_t data_length);
 
 /*
+ * Writes the module in the file into `output`, which has exactly the file's length, with the addresses of a plan: raw
+ * text and data as built, and every recorded address as the plan has it. Opened again, its recorded addresses are the
+ * plan's, and building it for any plan gives what the first file gives. A refusal leaves `output` as it was. The order of
+ * refusals: the module's, ROOM 2, PLAN, SHARED (two parts of the file share a byte), ROOM 0 for `output`.
+ */
+xcoff_verdict xcoff_write_module(const uint8_t *file, size_t length, uint64_t text_address, uint64_t data_address,
+                                 const uint64_t *list, size_t places, uint8_t *output, size_t output_length);
+
+/*
  * Tables: one call lists all elements, a row of numbers for each, and judges the file once. `numbers` is how many 64-bit
  * numbers `rows` has room for, and must be exactly the rows' own: ROOM (20), item 0, is the last refusal. The counts are
  * those of xcoff_walk (visited) and xcoff_module (symbols, relocations, ids). A refusal leaves `rows` as it was; an

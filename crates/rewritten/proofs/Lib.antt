@@ -1,0 +1,17 @@
+-- The theorems.
+pub mod Fields
+pub mod Judge
+pub mod Parts
+pub mod Entries
+pub mod Address
+pub mod Stages
+pub mod Read
+pub mod Opens
+pub mod Loads
+pub mod Loaded
+pub mod Rebases
+pub mod Outside
+pub mod Theorem
+pub mod Reports
+pub mod Operation
+pub mod Named
