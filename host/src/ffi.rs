@@ -257,6 +257,16 @@ extern "C" {
         numbers: usize,
     ) -> Head;
     fn xcoff_import_table(file: *const u8, length: usize, rows: *mut u64, numbers: usize) -> Head;
+    fn xcoff_write_module(
+        file: *const u8,
+        length: usize,
+        text_address: u64,
+        data_address: u64,
+        list: *const u64,
+        places: usize,
+        output: *mut u8,
+        output_length: usize,
+    ) -> Head;
     fn xcoff_salvage_count(file: *const u8, length: usize) -> Count;
     fn xcoff_salvage(
         file: *const u8,
@@ -481,6 +491,21 @@ pub fn relocation_table(file: &[u8], rows: &mut [u64]) -> Head {
 
 pub fn import_table(file: &[u8], rows: &mut [u64]) -> Head {
     unsafe { xcoff_import_table(file.as_ptr(), file.len(), rows.as_mut_ptr(), rows.len()) }
+}
+
+pub fn write_module(file: &[u8], at: (u64, u64), list: &[u64], output: &mut [u8]) -> Head {
+    unsafe {
+        xcoff_write_module(
+            file.as_ptr(),
+            file.len(),
+            at.0,
+            at.1,
+            list.as_ptr(),
+            list.len(),
+            output.as_mut_ptr(),
+            output.len(),
+        )
+    }
 }
 
 pub fn salvage_count(file: &[u8]) -> Count {

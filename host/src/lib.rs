@@ -12,6 +12,7 @@ mod image;
 mod place;
 mod records;
 mod refusal;
+mod rewrite;
 mod salvage;
 mod shared;
 mod tables;
@@ -25,6 +26,7 @@ pub use image::{
 pub use place::{places, FieldValue, Place, Value, What};
 pub use records::{read_records, records_length, write_records, write_records_into};
 pub use refusal::Refusal;
+pub use rewrite::{recorded_plan, write_module, write_module_into};
 pub use salvage::{
     changed_fields, changes, salvage, salvage_count, salvage_into, Change, ChangedField, Salvaged,
 };

@@ -25,6 +25,7 @@ mod output;
 mod plans;
 mod problem;
 mod records;
+mod rewrite;
 mod salvage;
 mod shown;
 mod syntax;

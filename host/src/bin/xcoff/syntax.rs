@@ -2,7 +2,7 @@
 
 use crate::args::Arguments;
 use crate::problem::Problem;
-use crate::{check, images, lists, plans, records, salvage};
+use crate::{check, images, lists, plans, records, rewrite, salvage};
 
 pub struct Command {
     pub name: &'static str,
@@ -73,7 +73,7 @@ const fn lister(
     }
 }
 
-pub static COMMANDS: [Command; 13] = [
+pub static COMMANDS: [Command; 14] = [
     lister(
         "headers",
         "the file header and the sections",
@@ -221,6 +221,16 @@ pub static COMMANDS: [Command; 13] = [
         summary: "reads S-records back into images",
         help: IMAGES,
         run: records::images,
+    },
+    Command {
+        name: "rewrite",
+        usage: "FILE SHEET -o FILE2",
+        operands: &["FILE", "SHEET"],
+        optional: 0,
+        options: &[required("-o", &["FILE2"])],
+        summary: "writes a module back as a file for a sheet",
+        help: REWRITE,
+        run: rewrite::rewrite,
     },
     Command {
         name: "salvage",
@@ -511,6 +521,23 @@ exits with 1.
 --force         replaces an XCOFF file or a sheet too
 --no-wait       ends, with status 3, where another xcoff writes in the folder
 --json          prints one object a line
+";
+
+const REWRITE: &str = "\
+Writes a module back as an XCOFF file of the same length for a plan sheet, for a
+monitor that takes a file and no images. Raw text and data are as built; the section
+headers, the auxiliary header, the loader section's values of defined symbols and
+its relocation addresses are moved; imports have the sheet's addresses. Every other
+byte is the file's, so values in the symbol table stay as they are. A file whose
+parts share bytes is refused (29 SHARED).
+
+What was written is read again and compared before FILE2 is replaced: its addresses
+are the sheet's, its images are those of FILE for the sheet, and written back for the
+addresses of FILE it is FILE, byte for byte. An old FILE2 is replaced whole.
+
+  xcoff rewrite diag.xcoff card7.sheet -o card7.xcoff
+
+-o FILE2  the file to write
 ";
 
 const SALVAGE: &str = "\
