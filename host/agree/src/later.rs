@@ -16,7 +16,6 @@ pub fn is_later(op: &Op) -> bool {
             | Op::ObjectCalls { .. }
             | Op::FindLine { .. }
             | Op::Table(_)
-            | Op::WriteModule { .. }
     )
 }
 

@@ -11,6 +11,7 @@ mod lister;
 mod places;
 mod read;
 mod records;
+mod rewrites;
 mod run;
 mod salvages;
 mod tables;
