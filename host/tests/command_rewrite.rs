@@ -15,13 +15,14 @@ fn words(line: &str) -> Vec<&str> {
 fn bench() -> Folder {
     let folder = Folder::new();
     folder.copy(M);
-    let plan = "plan exe-imports-32 --text 10000 --data 80000 --import errno=fff01200 -o sheet";
+    let plan =
+        "plan exe-imports-32 --text 10000 --data 80000 --import errno=fff01200 --recorded -o sheet";
     folder.done(&words(plan));
     folder.done(&words("build exe-imports-32 sheet -o text data"));
     folder
 }
 
-const WROTE: &str = "wrote new (2631 bytes): text 00010000, data 00080000, bss 00080060, \
+const WROTE: &str = "wrote new (2631 bytes): text 00010000-0001009f, data 00080000-0008009f, \
                      1 of 6 imports moved; entry 00080030, TOC 00080040\n";
 
 #[test]
@@ -40,12 +41,12 @@ fn the_written_file_is_the_module_at_the_sheets_addresses() {
     let imports = folder.done(&["imports", "new"]);
     assert_eq!(rows(&imports, "index")[0][1], "fff01200");
     // Its plan, without a word about addresses, is the sheet's, and its images are.
-    folder.done(&words("plan new -o own"));
+    folder.done(&words("plan new --recorded -o own"));
     folder.done(&words("check new own text data"));
     folder.done(&words("build new own -o text2 data2"));
     folder.done(&words("check exe-imports-32 sheet text2 data2"));
     // Back for the addresses of the first file it is that file.
-    folder.done(&words("plan exe-imports-32 -o first"));
+    folder.done(&words("plan exe-imports-32 --recorded -o first"));
     folder.done(&words("rewrite new first -o back"));
     assert_eq!(folder.read("back"), real(M));
 }
@@ -73,8 +74,8 @@ fn every_pair_is_written_for_its_other_place() {
         };
         folder.write("one", &real(&name));
         folder.write("other", &real(&other));
-        folder.done(&words("plan other -o sheet"));
-        folder.done(&words("rewrite one sheet -o new"));
+        folder.done(&words("plan other --recorded -o sheet"));
+        folder.done(&words("rewrite one sheet -o new --force"));
         let listing = |file| folder.done(&["module", file]);
         assert_eq!(listing("new"), listing("other"), "{name}");
         let entries = |file| folder.done(&["relocations", file]);
@@ -87,10 +88,10 @@ fn addresses_of_xcoff64_have_16_digits() {
     let folder = Folder::new();
     folder.copy("exe-imports-64");
     folder.done(&words(
-        "plan exe-imports-64 --text 900000000000000 --data 900000010000000 -o sheet",
+        "plan exe-imports-64 --text 900000000000000 --data 900000010000000 --recorded -o sheet",
     ));
     let out = folder.done(&words("rewrite exe-imports-64 sheet -o new"));
-    let start = "wrote new (3270 bytes): text 0900000000000000, data 0900000010000000, bss 09000000100000a8, \
+    let start = "wrote new (3270 bytes): text 0900000000000000-09000000000000bf, data 0900000010000000-09000000100000e7, \
                  0 of 6 imports moved; entry ";
     assert!(out.starts_with(start), "{out}");
 }
@@ -147,6 +148,43 @@ fn parts_that_share_bytes_are_named() {
                raw text (offset 256, 64 bytes) and raw data (offset 319, 32 bytes)\n";
     folder.fails(&words("rewrite m sheet -o new"), 1, err);
     assert_eq!(folder.names(), ["m", "sheet"]);
+}
+
+/// A module is what all else is made from, and one that was written looks like any other: it is replaced on demand only.
+#[test]
+fn another_xcoff_file_is_replaced_with_force_only() {
+    let folder = bench();
+    folder.copy("exe-basic-32");
+    let old = folder.read("exe-basic-32");
+    let line = "rewrite exe-imports-32 sheet -o exe-basic-32";
+    let err =
+        "xcoff: exe-basic-32 is an XCOFF file and would be replaced by a module written back; \
+               nothing is changed (--force replaces it)\n";
+    folder.fails(&words(line), 1, err);
+    assert_eq!(folder.read("exe-basic-32"), old);
+    folder.done(&words(&format!("{line} --force")));
+    assert_eq!(folder.read("exe-basic-32").len(), 2631);
+}
+
+/// Addresses that the rules accept and a bench should know of.
+#[test]
+fn overlaps_and_alignments_are_warned_of() {
+    let folder = bench();
+    let plan = "plan exe-imports-32 --text 10001 --data 10080 --recorded -o odd --force";
+    assert_eq!(folder.run(&words(plan)).status, Some(0));
+    let ran = folder.run(&words("rewrite exe-imports-32 odd -o new"));
+    assert_eq!(ran.status, Some(0));
+    assert!(
+        ran.err.contains("xcoff: warning: the images overlap: "),
+        "{}",
+        ran.err
+    );
+    assert!(
+        ran.err
+            .contains("xcoff: warning: the text address 00010001 is not aligned"),
+        "{}",
+        ran.err
+    );
 }
 
 #[test]

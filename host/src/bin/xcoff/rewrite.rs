@@ -4,10 +4,13 @@ use crate::args::Arguments;
 use crate::escape;
 use crate::files;
 use crate::imports::takes_address;
+use crate::kinds::{may_replace, Written};
 use crate::load::{apart, Loaded, Sheet};
+use crate::lock;
 use crate::output::{reached_words, refused_in, say_done};
 use crate::problem::Problem;
 use crate::shown;
+use crate::warnings;
 use std::path::Path;
 use xcoff::{LoaderRow, Module, Refusal};
 
@@ -15,12 +18,16 @@ pub fn rewrite(args: &Arguments) -> Result<(), Problem> {
     let out = args.paths("-o").expect("the syntax asks for it")[0];
     let inputs = [("FILE", args.path(0)), ("SHEET", args.path(1))];
     apart(args, &[("FILE2", out)], &inputs)?;
+    let _lock = lock::to_write(args, &[out])?;
     let file = Loaded::read(args.path(0))?;
     let sheet = Sheet::read(args.path(1))?;
     let written = judged(&file, &sheet, xcoff::write_module(&file.bytes, &sheet.plan))?;
 
     let moved = Moved::new(&file, &sheet)?;
+    may_replace(args, out, Written::Module)?;
     files::replace_read_back(out, &written, |bytes| moved.is(out, bytes))?;
+    warnings::of_sheet(&file, &sheet)?;
+    warnings::of_addresses(&file, &sheet.plan);
     say_done(&moved.done_line(out, written.len()))
 }
 
@@ -116,20 +123,17 @@ impl<'a> Moved<'a> {
     }
 
     fn done_line(&self, out: &Path, length: usize) -> String {
-        let d = self.file.digits();
         let reached = xcoff::Reached {
             entry: self.module.entry.map(|anchor| anchor.address),
             toc: self.module.toc.map(|anchor| anchor.address),
         };
         format!(
-            "wrote {} ({length} bytes): text {:0d$x}, data {:0d$x}, bss {:0d$x}, {} of {} imports moved; {}",
+            "wrote {} ({length} bytes): {}, {} of {} imports moved; {}",
             escape::argument(out),
-            self.module.text.address,
-            self.module.data.address,
-            self.module.bss.address,
+            self.file.ranges(&self.sheet.plan),
             self.moved_imports(),
             self.symbols.iter().filter(|row| takes_address(row)).count(),
-            reached_words(&reached, d)
+            reached_words(&reached, self.file.digits())
         )
     }
 

@@ -224,10 +224,10 @@ pub static COMMANDS: [Command; 14] = [
     },
     Command {
         name: "rewrite",
-        usage: "FILE SHEET -o FILE2",
+        usage: "FILE SHEET -o FILE2 [--force] [--no-wait]",
         operands: &["FILE", "SHEET"],
         optional: 0,
-        options: &[required("-o", &["FILE2"])],
+        options: &[required("-o", &["FILE2"]), FORCE, NO_WAIT],
         summary: "writes a module back as a file for a sheet",
         help: REWRITE,
         run: rewrite::rewrite,
@@ -533,11 +533,15 @@ parts share bytes is refused (29 SHARED).
 
 What was written is read again and compared before FILE2 is replaced: its addresses
 are the sheet's, its images are those of FILE for the sheet, and written back for the
-addresses of FILE it is FILE, byte for byte. An old FILE2 is replaced whole.
+addresses of FILE it is FILE, byte for byte. Images that overlap, addresses that are
+not aligned as the module's own, and a sheet that was probably made for another module
+are warned of. Another XCOFF file is replaced with --force only.
 
   xcoff rewrite diag.xcoff card7.sheet -o card7.xcoff
 
--o FILE2  the file to write
+-o FILE2   the file to write
+--force    replaces an XCOFF file or a sheet too
+--no-wait  ends, with status 3, where another xcoff writes in the folder
 ";
 
 const SALVAGE: &str = "\
