@@ -51,6 +51,19 @@ fn the_written_file_is_the_module_at_the_sheets_addresses() {
     assert_eq!(folder.read("back"), real(M));
 }
 
+/// Sheets that were made for the first module are for the moved one too, and are not warned of.
+#[test]
+fn sheets_of_the_first_module_are_for_the_moved_one() {
+    let folder = bench();
+    folder.done(&words("rewrite exe-imports-32 sheet -o new"));
+    folder.done(&words("plan new --recorded -o own"));
+    for (module, sheet) in [("new", "sheet"), ("new", "own"), (M, "sheet")] {
+        let line = format!("build {module} {sheet} -o t d");
+        folder.done(&words(&line));
+        folder.done(&words(&format!("check {module} {sheet} text data")));
+    }
+}
+
 #[test]
 fn an_older_file_is_replaced() {
     let folder = bench();
@@ -75,7 +88,9 @@ fn every_pair_is_written_for_its_other_place() {
         folder.write("one", &real(&name));
         folder.write("other", &real(&other));
         folder.done(&words("plan other --recorded -o sheet"));
-        folder.done(&words("rewrite one sheet -o new --force"));
+        // The sheet has the other's recorded values: whether that is warned of is not looked at here.
+        let ran = folder.run(&words("rewrite one sheet -o new --force"));
+        assert_eq!(ran.status, Some(0), "{name}: {}", ran.err);
         let listing = |file| folder.done(&["module", file]);
         assert_eq!(listing("new"), listing("other"), "{name}");
         let entries = |file| folder.done(&["relocations", file]);
@@ -111,7 +126,7 @@ fn a_sheet_that_does_not_fit_is_named() {
         ),
         (
             "high",
-            ": refused 19 0 0: PLAN, the text image at the plan's text address passes the end of the address space\n",
+            " (text at ffffff61, 160 bytes): refused 19 0 0: PLAN, the text image at the plan's text address passes the end of the address space\n",
         ),
     ] {
         let line = format!("rewrite exe-imports-32 {sheet} -o new");
