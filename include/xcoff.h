@@ -4,7 +4,9 @@
  *
  *     cc -Iinclude PROGRAM.c target/staticlib/libxcoff_c.a -o PROGRAM
  *
- * examples/build_images.c is one.
+ * examples/build_images.c and examples/move_images.c are two. xcoff_inline.h has names for the numbers below, plans as
+ * structs and tables by rows; xcoff_words.h the words of a refusal. Where all is installed, `pkg-config --cflags --libs
+ * xcoff` says how to compile.
  *
  * Every function takes the whole file as a pointer and a length, judges it from the start and keeps nothing between
  * calls: nothing has to be opened, closed or checked beforehand, and any bytes are allowed. A file of length 0 may have
@@ -30,11 +32,14 @@
  *                16,777,216 bytes of data image; a salvage report that is
  *                longer than the memory lent for it
  *    4 KIND      section flags not allowed                                 section
- *    5 BOUNDS    raw data, symbol or string table past the file's end      section, or 0
+ *    5 BOUNDS    raw data, symbol or string table past the file's end;     section, or 0
+ *                a section's line table past it, or its overflow header
+ *                not there exactly once
  *    6 ADDRESS   a section's addresses differ or pass the address space;   section
  *                a module's bss below the end of its data
  *    7 STRINGS   string table length 1 to 3                                0
- *    8 INDEX     no such section, symbol, loader symbol or import id       the number asked for
+ *    8 INDEX     no such section, symbol, loader symbol or import id; no   the number asked for
+ *                such text section
  *    9 AUX       a symbol's auxiliary entries pass the table's end         index
  *   10 NAME      bad name offset, into the string table or, for a class    index
  *                with bit 80 hex, into the one debug section
@@ -64,6 +69,8 @@
  *   24 CLASH     the text and data images share an address                 0
  *   29 SHARED    parts of the file that must not do so share a byte        0
  *   30 VISIBILITY  a symbol's type claims a visibility of 5 to 7           index
+ *   31 NOLINE    no line at or below the address asked for                 0
+ *   32 GROUP     a line table has a line before any function               0
  *
  * The offset of a refusal is that of the first byte, in the file, of what its item names:
  *
@@ -94,6 +101,11 @@
 extern "C" {
 #endif
 
+/* The version of this interface, and that of the archive: where the two differ, header and archive are not of one
+   installation. It counts up with every change that a program over it could see. */
+#define XCOFF_VERSION 1
+uint64_t xcoff_version(void);
+
 /* The file header. */
 typedef struct xcoff_open_answer {
     uint64_t number;
@@ -118,6 +130,10 @@ typedef struct xcoff_section_answer {
     uint64_t flag;      /* 8 pad, 10 dwarf, 20 text, 40 data, 80 bss, 100 except, 200 info, 400 tdata, 800 tbss,
                            1000 loader, 2000 debug, 4000 typchk, 8000 ovrflo (hex); FFFF deleted */
     uint64_t raw;       /* 1: there is raw data, all of it inside the file */
+    uint64_t relptr;    /* where the section's relocation table lies in the file, and how many entries it has, */
+    uint64_t nreloc;    /* both as the header has them: 65,535 of an XCOFF32 file is not replaced here */
+    uint64_t lnnoptr;   /* the same of its line number table */
+    uint64_t nlnno;
 } xcoff_section_answer;
 
 /* A name or string: file + start, length bytes, all of them inside the file. */
@@ -483,6 +499,37 @@ xcoff_walk_answer xcoff_symbol_table(const uint8_t *file, size_t length, uint64_
 xcoff_verdict xcoff_loader_symbol_table(const uint8_t *file, size_t length, uint64_t *rows, size_t numbers);
 xcoff_verdict xcoff_relocation_table(const uint8_t *file, size_t length, uint64_t *rows, size_t numbers);
 xcoff_verdict xcoff_import_table(const uint8_t *file, size_t length, uint64_t *rows, size_t numbers);
+
+/*
+ * Line number tables of text sections. An entry with line 0 begins a function and has the index of its symbol; every other
+ * has an address and a line, which most tables count from the start of the function. In XCOFF32 a count of 65,535 in the
+ * section's header is replaced by that in the overflow header whose nreloc is the section's number. The refusals, after those
+ * of opening: INDEX where section is no text section's number, BOUNDS with the section.
+ */
+typedef struct xcoff_line_answer {
+    uint64_t number;
+    uint64_t item;
+    uint64_t offset;
+    uint64_t entry;     /* from 0 in the section's table */
+    uint64_t address;
+    uint64_t line;
+    uint64_t symbol;    /* index of the symbol that opened the entry's group; it is not checked */
+} xcoff_line_answer;
+
+/* The entry with the greatest address not above `address`, the first such in the table; it is not compared with the section's
+   own addresses. GROUP, whatever address is asked for, comes before NOLINE, the last refusal. */
+xcoff_line_answer xcoff_find_line(const uint8_t *file, size_t length, uint64_t section, uint64_t address);
+
+/* An entry of a line table. */
+typedef struct xcoff_line_row {
+    uint64_t function;  /* 1: a function begins, value is its symbol's index; 0: value is an address */
+    uint64_t value;
+    uint64_t line;      /* 0 exactly where a function begins */
+} xcoff_line_row;
+
+/* How many entries a section's line table has, and these entries whole, 3 numbers each, as the tables above are listed. */
+xcoff_count_answer xcoff_line_count(const uint8_t *file, size_t length, uint64_t section);
+xcoff_verdict xcoff_line_table(const uint8_t *file, size_t length, uint64_t section, uint64_t *rows, size_t numbers);
 
 #ifdef __cplusplus
 }

@@ -77,6 +77,7 @@ impl Commands {
             assert_eq!(self.run(&format!("{listing} m --json")), status, "{listing}");
             module = status;
         }
+        self.lines();
         for address in ["text", "data", "@3", "puts"] {
             let status = self.run(&format!("relocations m --follows {address}"));
             assert!(status == module || module == 0 && status == 2, "{address}: status {status}");
@@ -94,6 +95,21 @@ impl Commands {
         }
         let names = fs::read_dir(".").unwrap().map(|entry| entry.unwrap().file_name());
         assert!(!names.into_iter().any(|name| name.to_string_lossy().ends_with(".tmp")));
+    }
+
+    /// Line tables: one address is found or not, of several each has a row.
+    fn lines(&self) {
+        let listed = self.run("lines m");
+        assert!(listed <= 1);
+        assert_eq!(self.run("lines m --json"), listed);
+        let found = self.run("line m 10000100 --json");
+        assert!(found <= 1);
+        assert!(self.run("line m 0 10000100 ffffffffffffffff") <= 1);
+        let named = self.run("line m 10000100 --section 1");
+        assert!(named <= 1);
+        // A table that is refused has no line.
+        assert!(self.run("lines m --section 1") <= named);
+        assert!(self.run("line m 10000100 --sheet fixed.sheet") <= 1);
     }
 
     /// A file that opens is salvaged, or its parts share bytes; of the copy every symbol is listed, and nothing is left to mend.

@@ -56,7 +56,7 @@ static void refusal(const void *answer, size_t size)
     uint64_t head[3];
     size_t i;
     memcpy(head, answer, sizeof head);
-    PROMISE(head[0] <= 24 || head[0] == 29 || head[0] == 30);
+    PROMISE(head[0] <= 24 || (head[0] >= 29 && head[0] <= 32));
     PROMISE(head[0] == 0 ? head[1] == 0 && head[2] == 0 : head[2] <= length);
     for (i = sizeof head; head[0] != 0 && i < size; i++)
         PROMISE(((const uint8_t *)answer)[i] == 0);
@@ -314,6 +314,82 @@ static void symbols(xcoff_open_answer o)
         xcoff_symbol_answer y = xcoff_symbol(file, length, w.end);
         PROMISE(REFUSED_AS(y, w.cause));
     }
+}
+
+/* The line that a plain search of a table finds, or the refusal. */
+static xcoff_line_answer line_among(const xcoff_line_row *rows, uint64_t n, uint64_t address)
+{
+    xcoff_line_answer found = {31, 0, 0, 0, 0, 0, 0}, group = {32, 0, 0, 0, 0, 0, 0};
+    uint64_t i, symbol = 0;
+    for (i = 0; i < n; i++) {
+        if (rows[i].function) {
+            symbol = rows[i].value;
+            group.number = 0;
+        } else if (group.number != 0)
+            return group;
+        else if (rows[i].value <= address && (found.number != 0 || rows[i].value > found.address)) {
+            xcoff_line_answer better = {0, 0, 0, i, rows[i].value, rows[i].line, symbol};
+            found = better;
+        }
+    }
+    return found;
+}
+
+/* Lines of a section: the table into exactly as many places, and what is found in it. */
+static void lines_of(xcoff_open_answer o, uint64_t n)
+{
+    xcoff_section_answer s = xcoff_section(file, length, n);
+    xcoff_count_answer c = xcoff_line_count(file, length, n);
+    const xcoff_line_row *rows;
+    uint64_t *numbers;
+    uint64_t i;
+    int by;
+    ANSWER(c);
+    if (o.number != 0)
+        PROMISE(REFUSED_AS(c, o));
+    else if (s.number != 0 || s.flag != 0x20)
+        PROMISE(REFUSED(c, 8, n, 0));
+    else
+        PROMISE(c.number == 0 || REFUSED(c, 5, n, header_at(n)));
+    PROMISE(c.count <= length / (c.number == 0 && o.bits == 64 ? 12 : 6));
+    for (by = -1; by <= 1; by += 2) {
+        size_t room = 3 * c.count + (by < 0 && c.count == 0 ? 0 : by);
+        xcoff_verdict v;
+        if (room == 3 * c.count)
+            continue;
+        numbers = lend(rows_area, 8 * room);
+        fill(numbers, 8 * room);
+        v = xcoff_line_table(file, length, n, numbers, room);
+        ANSWER(v);
+        PROMISE(c.number != 0 ? REFUSED_AS(v, c) : REFUSED(v, 20, 0, 0));
+        untouched(numbers, 8 * room);
+    }
+    numbers = lend(rows_area, 8 * 3 * c.count);
+    if (c.number == 0)
+        PROMISE(xcoff_line_table(file, length, n, numbers, 3 * c.count).number == 0);
+    note(numbers, 8 * 3 * c.count);
+    rows = (const void *)numbers;
+    for (i = 0; i < c.count; i++)
+        PROMISE(rows[i].function == (uint64_t)(rows[i].line == 0) && rows[i].line <= UINT32_MAX);
+    for (i = 0; i < 6; i++) {
+        uint64_t address = i == 0 ? s.paddr : i == 1 ? s.paddr + s.size : i == 2 ? UINT64_MAX : any_number();
+        xcoff_line_answer l, expected;
+        if (i > 3 && c.count > 0)
+            address = rows[random_number() % c.count].value - (i == 5);
+        l = xcoff_find_line(file, length, n, address);
+        ANSWER(l);
+        expected = line_among(rows, c.count, address);
+        PROMISE(c.number != 0 ? REFUSED_AS(l, c) : SAME(l, expected));
+    }
+}
+
+static void lines(xcoff_open_answer o)
+{
+    uint64_t n;
+    step = "lines";
+    for (n = 0; n <= o.sections + 1; n++)
+        lines_of(o, n);
+    lines_of(o, any_number());
 }
 
 /* The rows of a table of a module into exactly as many places; a place more or less is refused. */
@@ -1135,9 +1211,12 @@ static void nothing(void)
     xcoff_length_answer l = xcoff_records_length(NULL, 0, 0, 0, NULL, 0);
     xcoff_verdict w = xcoff_write_records(NULL, 0, 0, 0, NULL, 0, NULL, 0, NULL, 0, NULL, 0);
     xcoff_verdict r = xcoff_read_records(NULL, 0, 0, 0, NULL, 0, NULL, 0, NULL, 0, NULL, 0);
+    xcoff_line_answer f = xcoff_find_line(NULL, 0, 1, 0);
+    xcoff_verdict b = xcoff_line_table(NULL, 0, 1, NULL, 0);
     step = "nothing";
     PROMISE(REFUSED(o, 1, 0, 0) && REFUSED(t, 1, 0, 0) && REFUSED(v, 1, 0, 0));
     PROMISE(REFUSED(l, 1, 0, 0) && REFUSED(w, 1, 0, 0) && REFUSED(r, 1, 0, 0));
+    PROMISE(REFUSED(f, 1, 0, 0) && REFUSED(b, 1, 0, 0));
     PROMISE(xcoff_write_module(NULL, 0, 0, 0, NULL, 0, NULL, 0).number == 1);
     PROMISE(xcoff_salvage(NULL, 0, NULL, 0, NULL, 0).number == 1);
 }
@@ -1159,6 +1238,7 @@ static uint64_t run(const uint8_t *input, size_t n)
         nothing();
         o = headers();
         symbols(o);
+        lines(o);
         m = module(o);
         tables(m);
         images(m);

@@ -104,3 +104,53 @@ impl Symbols {
         out.extend(n.to_be_bytes());
     }
 }
+
+/// A file with one text section and its line table: functions of 99 lines each, a line for every 4 bytes.
+#[derive(Clone, Copy)]
+pub struct Lines {
+    pub format: Format,
+    /// Entries of the table, those of functions included.
+    pub count: u32,
+}
+
+impl Lines {
+    pub fn bytes(&self) -> Vec<u8> {
+        let wide = self.format == Format::Xcoff64;
+        let overflows = !wide && self.count >= 65_535;
+        let sections = if overflows { 2 } else { 1 };
+        let start = if wide { 24 + 72 } else { 20 + 40 * sections };
+        let mut out = if wide { vec![0x01, 0xF7, 0, 1] } else { vec![0x01, 0xDF, 0, sections as u8] };
+        out.resize(if wide { 24 } else { 20 }, 0);
+        let counts = if overflows { [65_535; 2] } else { [0, self.count] };
+        self.section(&mut out, [0, 0, 4 * self.count, start], counts, 0x20);
+        if overflows {
+            self.section(&mut out, [0, self.count, 0, start], [1, 1], 0x8000);
+        }
+        for n in 0..self.count {
+            let (value, line) = (4 * n, n % 100);
+            match self.format {
+                Format::Xcoff32 => out.extend(value.to_be_bytes()),
+                // A symbol's index is in the first half.
+                Format::Xcoff64 if line == 0 => out.extend((u64::from(value) << 32).to_be_bytes()),
+                Format::Xcoff64 => out.extend(u64::from(value).to_be_bytes()),
+            }
+            out.extend(&line.to_be_bytes()[if wide { 0 } else { 2 }..]);
+        }
+        out
+    }
+
+    /// Physical and virtual address, size and where the line table is; the counts of both tables.
+    fn section(&self, out: &mut Vec<u8>, numbers: [u32; 4], counts: [u32; 2], flag: u32) {
+        let wide = self.format == Format::Xcoff64;
+        let [paddr, vaddr, size, lines] = numbers;
+        out.extend(b".text\0\0\0");
+        for number in [paddr, vaddr, size, 0, 0, lines] {
+            out.extend(&u64::from(number).to_be_bytes()[if wide { 0 } else { 4 }..]);
+        }
+        for count in counts {
+            out.extend(&count.to_be_bytes()[if wide { 0 } else { 2 }..]);
+        }
+        out.extend(flag.to_be_bytes());
+        out.extend(vec![0; if wide { 4 } else { 0 }]);
+    }
+}

@@ -5,7 +5,7 @@ use crate::common::orders::{module_at, order_module, Order, ORDERS};
 use crate::common::plain::Build;
 use crate::common::records::Records;
 use crate::common::turns::{by_turns, Work};
-use crate::files::Symbols;
+use crate::files::{Lines, Symbols};
 use crate::object_rows::our_symbols;
 use crate::report::{name, Report};
 use crate::FORMATS;
@@ -17,6 +17,7 @@ const ENTRIES: [u64; 4] = [1_000, 4_096, 10_000, 100_000];
 const WIDE: u64 = 15_100_000;
 const MIB: [u64; 5] = [1, 2, 4, 8, 16];
 const SYMBOLS: [u32; 5] = [1_000, 5_000, 25_000, 125_000, 500_000];
+const LINES: [u32; 4] = [1_000, 10_000, 100_000, 1_000_000];
 
 pub fn rows(report: &mut Report) {
     entries(report);
@@ -26,6 +27,7 @@ pub fn rows(report: &mut Report) {
     files(report);
     records(report);
     symbols(report);
+    lines(report);
 }
 
 fn entries(report: &mut Report) {
@@ -247,6 +249,30 @@ fn symbol_file(format: Format, count: u32) -> Vec<u8> {
     .bytes()
 }
 
+/// The last address of a line table, so that every entry is looked at, and the table listed.
+fn lines(report: &mut Report) {
+    let sizes = LINES.map(|n| thousands(n.into()));
+    report.growth("growth: lines, time for one entry", &sizes);
+    for format in FORMATS {
+        let bits = name(format);
+        let mut files = LINES.map(|count| Lines { format, count }.bytes());
+        for (file, n) in files.iter().zip(LINES) {
+            let last = u64::from(n) - 1;
+            let found = xcoff::find_line(file, 1, u64::MAX).unwrap();
+            assert_eq!((found.entry, found.address, found.line), (last, 4 * last, 99));
+        }
+        let sizes = LINES.map(f64::from);
+        let times = each(report, &mut files, &|file| {
+            black_box(xcoff::find_line(black_box(file), 1, u64::MAX).unwrap());
+        });
+        report.grown(&format!("{bits} line of an address"), &times, &sizes);
+        let times = each(report, &mut files, &|file| {
+            black_box(xcoff::line_table(black_box(file), 1).unwrap());
+        });
+        report.grown(&format!("{bits} line table"), &times, &sizes);
+    }
+}
+
 /// The same work on several states, by turns.
 fn each<S, const N: usize>(report: &Report, states: &mut [S; N], work: Work<S>) -> [f64; N] {
     let works: [_; N] = std::array::from_fn(|n| move |all: &mut [S; N]| work(&mut all[n]));
@@ -257,6 +283,6 @@ fn each<S, const N: usize>(report: &Report, states: &mut [S; N], work: Work<S>) 
 fn thousands(n: u64) -> String {
     match n {
         0..=999 => n.to_string(),
-        _ => format!("{},{:03}", n / 1000, n % 1000),
+        _ => format!("{},{:03}", thousands(n / 1000), n % 1000),
     }
 }

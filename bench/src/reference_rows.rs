@@ -3,7 +3,7 @@
 use crate::common::made::{Module, Symbol};
 use crate::common::orders::{module, Order};
 use crate::common::plain::{Build, Move, ENTRIES};
-use crate::files::Symbols;
+use crate::files::{Lines, Symbols};
 use crate::report::{name, Report};
 use crate::FORMATS;
 use std::hint::black_box;
@@ -20,6 +20,7 @@ pub fn rows(report: &mut Report) {
         judge(report, format);
         build(report, format);
         moved(report, format);
+        line(report, format);
     }
 }
 
@@ -36,6 +37,23 @@ fn open(report: &mut Report, format: Format, sections: u16) {
         },
         &|file| {
             black_box(reference::open(black_box(file)).unwrap());
+        },
+    );
+}
+
+fn line(report: &mut Report, format: Format) {
+    let count = 1_000_000;
+    let mut file = Lines { format, count }.bytes();
+    let found = xcoff::find_line(&file, 1, u64::MAX).unwrap().entry;
+    assert_eq!(reference::find_line(&file, 1, u64::MAX).unwrap().entry, found);
+    report.versus(
+        &format!("{} line of an address, 1,000,000 entries", name(format)),
+        &mut file,
+        &|file| {
+            black_box(xcoff::find_line(black_box(file), 1, u64::MAX).unwrap());
+        },
+        &|file| {
+            black_box(reference::find_line(black_box(file), 1, u64::MAX).unwrap());
         },
     );
 }

@@ -30,6 +30,10 @@ pub struct Section {
     pub scnptr: u64,
     pub flag: u64,
     pub raw: u64,
+    pub relptr: u64,
+    pub nreloc: u64,
+    pub lnnoptr: u64,
+    pub nlnno: u64,
 }
 
 #[repr(C)]
@@ -145,7 +149,17 @@ pub struct Count {
     pub count: u64,
 }
 
+#[repr(C)]
+pub struct Line {
+    pub head: Head,
+    pub entry: u64,
+    pub address: u64,
+    pub line: u64,
+    pub symbol: u64,
+}
+
 extern "C" {
+    fn xcoff_version() -> u64;
     fn xcoff_open(file: *const u8, length: usize) -> Open;
     fn xcoff_section(file: *const u8, length: usize, n: u64) -> Section;
     fn xcoff_section_name(file: *const u8, length: usize, n: u64) -> Range;
@@ -257,6 +271,15 @@ extern "C" {
         numbers: usize,
     ) -> Head;
     fn xcoff_import_table(file: *const u8, length: usize, rows: *mut u64, numbers: usize) -> Head;
+    fn xcoff_find_line(file: *const u8, length: usize, section: u64, address: u64) -> Line;
+    fn xcoff_line_count(file: *const u8, length: usize, section: u64) -> Count;
+    fn xcoff_line_table(
+        file: *const u8,
+        length: usize,
+        section: u64,
+        rows: *mut u64,
+        numbers: usize,
+    ) -> Head;
     fn xcoff_write_module(
         file: *const u8,
         length: usize,
@@ -276,6 +299,10 @@ extern "C" {
         report: *mut u8,
         report_length: usize,
     ) -> Count;
+}
+
+pub fn version() -> u64 {
+    unsafe { xcoff_version() }
 }
 
 pub fn open(file: &[u8]) -> Open {
@@ -491,6 +518,26 @@ pub fn relocation_table(file: &[u8], rows: &mut [u64]) -> Head {
 
 pub fn import_table(file: &[u8], rows: &mut [u64]) -> Head {
     unsafe { xcoff_import_table(file.as_ptr(), file.len(), rows.as_mut_ptr(), rows.len()) }
+}
+
+pub fn find_line(file: &[u8], section: u64, address: u64) -> Line {
+    unsafe { xcoff_find_line(file.as_ptr(), file.len(), section, address) }
+}
+
+pub fn line_count(file: &[u8], section: u64) -> Count {
+    unsafe { xcoff_line_count(file.as_ptr(), file.len(), section) }
+}
+
+pub fn line_table(file: &[u8], section: u64, rows: &mut [u64]) -> Head {
+    unsafe {
+        xcoff_line_table(
+            file.as_ptr(),
+            file.len(),
+            section,
+            rows.as_mut_ptr(),
+            rows.len(),
+        )
+    }
 }
 
 pub fn write_module(file: &[u8], at: (u64, u64), list: &[u64], output: &mut [u8]) -> Head {

@@ -53,6 +53,9 @@ pub fn build_images(
 }
 
 /// Moves images from one plan to another, taking the buffers as they are. A refusal changes no byte of them.
+///
+/// Images that are moved twice, or from a plan that they are not for, are wrong, and nothing in them shows it:
+/// [`move_images_checked`](crate::move_images_checked) compares them first.
 pub fn move_images(
     file: &[u8],
     from: &Plan,

@@ -2,27 +2,35 @@
 //!
 //! Every function takes the whole file and judges it from the start. Its answer is settled for any bytes: what was
 //! asked for, or the [`Refusal`] that the rules give. Names are parts of the caller's own file.
+//!
+//! Another Cargo project uses it by a path, and says by the environment variable `XCOFF_LIBRARY_DIR` in which folder
+//! `libxcoff_c.a` is; without it that is `target/staticlib` of the repository.
 #![deny(unsafe_code)]
 
+mod check;
 #[allow(unsafe_code)]
 mod ffi;
 mod follows;
 mod header;
 mod image;
+mod lines;
 mod place;
 mod records;
 mod refusal;
 mod rewrite;
 mod salvage;
 mod shared;
+mod source;
 mod tables;
 
+pub use check::{check_images, move_images_checked, Comparison, NotMoved};
 pub use follows::{followed, PlanAddress};
 pub use header::{header_fields, HeaderFields};
 pub use image::{
     build_images, move_images, read_sheet, read_sheet_into, replay, sheet_length, write_sheet,
     write_sheet_into, Call, Plan, Reached, Replayed,
 };
+pub use lines::{find_line, line_count, line_table, FoundLine, LineEntry, LineTable};
 pub use place::{places, FieldValue, Place, Value, What};
 pub use records::{read_records, records_length, write_records, write_records_into};
 pub use refusal::Refusal;
@@ -31,10 +39,16 @@ pub use salvage::{
     changed_fields, changes, salvage, salvage_count, salvage_into, Change, ChangedField, Salvaged,
 };
 pub use shared::{shared_in_module, shared_with_symbols, FilePart, FileRange};
+pub use source::{Source, Sources};
 pub use tables::{
     import_table, loader_symbol_table, relocation_table, symbol_table, Image, ImportId,
     ImportTable, LoaderRow, Relocation, SymbolRow, SymbolTable,
 };
+
+/// The version of the C interface that this package was written for, and that the archive it is linked with has.
+pub fn versions() -> (u64, u64) {
+    (1, ffi::version())
+}
 
 /// XCOFF32 or XCOFF64.
 #[derive(Clone, Copy, Debug, PartialEq, Eq)]
@@ -83,6 +97,13 @@ pub struct Section {
     pub scnptr: u64,
     /// Whether there is raw data.
     pub raw: bool,
+    /// Offset of the relocation table in the file, and how many entries it has, as the header has both: 65,535 of an
+    /// XCOFF32 section stands for the count in an overflow header.
+    pub relptr: u64,
+    pub nreloc: u64,
+    /// The same of the line number table.
+    pub lnnoptr: u64,
+    pub nlnno: u64,
 }
 
 #[derive(Clone, Copy, Debug, PartialEq, Eq)]
@@ -217,6 +238,10 @@ pub fn section(file: &[u8], n: u64) -> Result<Section, Refusal> {
         size: a.size,
         scnptr: a.scnptr,
         raw: a.raw != 0,
+        relptr: a.relptr,
+        nreloc: a.nreloc,
+        lnnoptr: a.lnnoptr,
+        nlnno: a.nlnno,
     })
 }
 

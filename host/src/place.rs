@@ -72,6 +72,8 @@ type Named = (What, &'static [&'static str]);
 
 const LSYM: &[&str] = &["l_zeroes", "l_offset", "l_scnum", "l_smtype", "l_ifile"];
 const LREL: &[&str] = &["l_vaddr", "l_symndx", "l_rtype", "l_rsecnm"];
+/// Of a section whose raw data is in the file, as in every file that opens.
+const LINE_TABLE: &[&str] = &["s_lnnoptr", "s_nlnno"];
 
 /// What the item of a refusal names, and the fields that its rule speaks of.
 fn named(file: &[u8], r: &Refusal) -> Option<Named> {
@@ -79,6 +81,7 @@ fn named(file: &[u8], r: &Refusal) -> Option<Named> {
     Some(match r.number {
         3 => return loader_limit(file, r),
         4 => (What::SectionHeader(i), &["s_flags"]),
+        5 if i != 0 && open(file).is_ok() => (What::SectionHeader(i), LINE_TABLE),
         5 if i != 0 => (What::SectionHeader(i), &["s_size", "s_scnptr"]),
         6 => (What::SectionHeader(i), &["s_paddr", "s_vaddr", "s_size"]),
         7 => (What::StringTable, &["length"]),
@@ -176,6 +179,8 @@ static SECTION_HEADER: Layout = Layout {
         field("s_vaddr", Hex, (12, 4), (16, 8)),
         field("s_size", Number, (16, 4), (24, 8)),
         field("s_scnptr", Number, (20, 4), (32, 8)),
+        field("s_lnnoptr", Number, (28, 4), (48, 8)),
+        field("s_nlnno", Number, (34, 2), (60, 4)),
         field("s_flags", Hex, (36, 4), (64, 4)),
     ],
 };

@@ -5,7 +5,7 @@ use std::fmt;
 /// A rule's number and the item it names, 0 where it names none. The offset is that of the first byte, in the file, of the
 /// section header or table entry that the item names, of the string table for STRINGS, of the loader section for LOADER
 /// and a module's LIMIT 2 and 3, and 0 for every other. [`places`](crate::places) reads what stands there.
-#[derive(Clone, Copy, Debug, PartialEq, Eq)]
+#[derive(Clone, Copy, PartialEq, Eq)]
 pub struct Refusal {
     pub number: u64,
     pub item: u64,
@@ -42,6 +42,8 @@ impl Refusal {
             24 => "CLASH",
             29 => "SHARED",
             30 => "VISIBILITY",
+            31 => "NOLINE",
+            32 => "GROUP",
             _ => "UNKNOWN",
         }
     }
@@ -55,7 +57,7 @@ impl Refusal {
             3 => limit(i).into(),
             4 => format!("the flags of section {i} are not allowed"),
             5 if i == 0 => "the symbol table or string table passes the file's end".into(),
-            5 => format!("the raw data of section {i} passes the file's end"),
+            5 => format!("the raw data or line table of section {i} passes the file's end, or the table's overflow header is not there exactly once"),
             6 => format!("the addresses of section {i} differ or pass the address space, or it is a bss below the end of data"),
             7 => "the string table has length 1, 2 or 3".into(),
             8 => format!("there is no number {i} of what was asked for"),
@@ -77,6 +79,8 @@ impl Refusal {
             24 => "the text and data images share an address".into(),
             29 => "parts of the file that must be apart share bytes".into(),
             30 => format!("the type of symbol {i} claims a visibility of 5 to 7, which means nothing"),
+            31 => "no entry of the line table has an address at or below the one asked for".into(),
+            32 => "the line table has a line before any function".into(),
             _ => "no such number".into(),
         }
     }
@@ -93,6 +97,13 @@ impl fmt::Display for Refusal {
             self.name(),
             self.meaning()
         )
+    }
+}
+
+/// The same words, so that an `unwrap` or an assertion tells what is refused.
+impl fmt::Debug for Refusal {
+    fn fmt(&self, f: &mut fmt::Formatter<'_>) -> fmt::Result {
+        write!(f, "{self}")
     }
 }
 

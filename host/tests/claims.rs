@@ -445,7 +445,9 @@ fn every_public_operation_has_its_edits() {
             *listed.entry(name.to_string()).or_default() += 1;
         }
     }
-    let wanted: BTreeSet<String> = operations().union(&exports()).cloned().collect();
+    let mut wanted: BTreeSet<String> = operations().union(&exports()).cloned().collect();
+    // It answers one number and judges nothing.
+    assert!(wanted.remove("xcoff_c::xcoff_version"));
     for name in wanted.iter().chain(listed.keys()).collect::<BTreeSet<_>>() {
         match (wanted.contains(name), listed.get(name)) {
             (true, Some(1)) => {}

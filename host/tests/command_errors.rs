@@ -38,6 +38,8 @@ fn help_is_there_for_the_tool_and_each_command() {
         "module",
         "imports",
         "relocations",
+        "lines",
+        "line",
         "plan",
         "sheet",
         "build",
@@ -644,6 +646,7 @@ fn a_file_that_cannot_be_read_is_named() {
         "module",
         "imports",
         "relocations",
+        "lines",
         "sheet",
     ] {
         folder.fails(&[command, "none"], 3, missing);

@@ -136,7 +136,7 @@ fn same_headers(file: &Listed, out: &str) {
     assert_eq!(got.len(), expected.len(), "{name}");
     for (g, e) in got.iter().zip(expected) {
         assert_eq!(
-            (g[0], g[7]),
+            (g[0], g[11]),
             (decimal(&e[0]).as_str(), shown(&e[6]).as_str())
         );
         assert_eq!((hex(g[2]), hex(g[3])), (hex(&e[1]), hex(&e[2])), "{name}");
@@ -144,6 +144,10 @@ fn same_headers(file: &Listed, out: &str) {
             (g[4], g[5]),
             (decimal(&e[3]).as_str(), decimal(&e[4]).as_str())
         );
+    }
+    for (g, e) in got.iter().zip(file.all("tables")) {
+        let tables: Vec<String> = e[1..].iter().map(|n| decimal(n)).collect();
+        assert_eq!(g[7..11], tables, "{name}");
     }
     // The stored text of the header lister has the kinds as words.
     let stored = tests_folder().join("corpus").join(format!("{name}.txt"));

@@ -156,8 +156,12 @@ fn section(file: &[u8], n: u64) -> Result<String, Refusal> {
     let s = xcoff::section(file, n)?;
     let kind = format!("{:?}", s.kind).to_lowercase();
     let name = name(file, xcoff::section_name(file, n)?);
+    let tables = format!(
+        "{:x} {:x} {:x} {:x}",
+        s.relptr, s.nreloc, s.lnnoptr, s.nlnno
+    );
     Ok(format!(
-        "{kind} {:x} {:x} {:x} {:x} {} {name}",
+        "{kind} {:x} {:x} {:x} {:x} {tables} {} {name}",
         s.paddr, s.vaddr, s.size, s.scnptr, s.raw as u64
     ))
 }
@@ -250,6 +254,14 @@ fn import_id(file: &[u8], n: u64) -> Result<String, Refusal> {
         xcoff::import_member(file, n)?,
     ];
     Ok(strings.map(|string| name(file, string)).join(" "))
+}
+
+fn find_line(file: &[u8], section: u64, address: u64) -> Result<String, Refusal> {
+    let f = xcoff::find_line(file, section, address)?;
+    Ok(format!(
+        "{:x} {:x} {:x} {:x}",
+        f.entry, f.address, f.line, f.symbol
+    ))
 }
 
 /// The header lister's text, from the library's answers; a newline as |.
@@ -459,6 +471,10 @@ fn operation(asked: &str) -> Op {
         "module" => Op::Module,
         "loader_symbol" => Op::LoaderSymbol(number(next(words))),
         "import_id" => Op::ImportPath(number(next(words))),
+        "find_line" => Op::FindLine {
+            section: number(next(words)),
+            address: number(next(words)),
+        },
         "calls" => Op::Calls {
             text: bytes(next(words)),
             data: bytes(next(words)),
@@ -512,6 +528,7 @@ fn answer(file: &[u8], asked: &str) -> String {
         "module" => given(module(file)),
         "loader_symbol" => given(loader_symbol(file, index(&mut words))),
         "import_id" => given(import_id(file, index(&mut words))),
+        "find_line" => given(find_line(file, index(&mut words), index(&mut words))),
         "list" => listed(file),
         "calls" => calls(file, &mut words),
         "sheet_read" => sheet_read(&mut words),
@@ -632,6 +649,14 @@ fn every_recorded_case_of_request_10_is_answered_as_recorded() {
     assert_eq!(counts.values().sum::<u64>(), 600);
     assert_eq!(counts.len(), 14, "{counts:?}");
     assert_eq!((counts["sheet_read"], counts["sheet_write"]), (106, 106));
+}
+
+#[test]
+fn every_recorded_case_of_request_7_is_answered_as_recorded() {
+    let counts = check("cases-07.txt", |answer| answer);
+    assert_eq!(counts.values().sum::<u64>(), 555);
+    assert_eq!(counts.len(), 15, "{counts:?}");
+    assert_eq!(counts["find_line"], 268);
 }
 
 #[test]

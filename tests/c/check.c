@@ -1,5 +1,6 @@
-/* Calls every function of include/xcoff.h from C on the real file tests/corpus/exe-imports-32, named as argument. */
-#include "xcoff.h"
+/* Calls every function of include/xcoff.h and xcoff_inline.h from C on the real file tests/corpus/exe-imports-32, named as argument. */
+#include "xcoff_inline.h"
+#include "xcoff_words.h"
 
 #include <stdio.h>
 #include <stdlib.h>
@@ -37,6 +38,7 @@ static void headers(void)
     EXPECT(o.symbols == 60 && o.opthdr == 72 && o.flags == 0x1206);
     EXPECT(s.paddr == 0x200001a0 && s.vaddr == 0x200001a0 && s.size == 0x60);
     EXPECT(s.scnptr == 0x1a0 && s.flag == 0x40 && s.raw == 1);
+    EXPECT(s.relptr == 1230 && s.nreloc == 20 && s.lnnoptr == 0 && s.nlnno == 0);
     EXPECT(is(xcoff_section_name(file, length, 2), ".data"));
     s = xcoff_section(file, length, 5);
     EXPECT(REFUSED(s, 8, 5, 0) && s.paddr == 0 && s.flag == 0 && s.raw == 0);
@@ -84,6 +86,55 @@ static void visibilities(void)
     EXPECT(ACCEPTED(y) && y.type == 0x5000 && y.has_visibility == 0 && y.visibility == 0);
     file[23] = 2;
     *type = 0;
+}
+
+/* A line table for section 1 behind the file: a function, two lines at one address and one after them. The header of section 1
+   is at 92. */
+static void lines(void)
+{
+    static const uint8_t table[] = {0, 0, 0, 5, 0, 0, 0x10, 0, 1, 4, 0, 1, 0x10, 0, 1, 4, 0, 2, 0x10, 0, 1, 8, 1, 0};
+    uint8_t header[40];
+    uint64_t rows[13];
+    xcoff_line_answer l = xcoff_find_line(file, length, 1, 0x10000104);
+    xcoff_count_answer c = xcoff_line_count(file, length, 1);
+    xcoff_verdict v;
+    EXPECT(REFUSED(l, 31, 0, 0) && l.entry == 0 && l.address == 0 && l.line == 0 && l.symbol == 0);
+    EXPECT(ACCEPTED(c) && c.count == 0);
+    l = xcoff_find_line(file, length, 2, 0x10000104);
+    c = xcoff_line_count(file, length, 2);
+    v = xcoff_line_table(file, length, 2, NULL, 0);
+    EXPECT(REFUSED(l, 8, 2, 0) && SAME_HEAD(l, c) && SAME_HEAD(l, v) && c.count == 0);
+    memcpy(header, file + 92, sizeof header);
+    memcpy(file + length, table, sizeof table);
+    file[92 + 30] = (uint8_t)(length >> 8);
+    file[92 + 31] = (uint8_t)length;
+    file[92 + 35] = 4;
+    l = xcoff_find_line(file, length, 1, 0x10000107);
+    c = xcoff_line_count(file, length + sizeof table - 1, 1);
+    v = xcoff_line_table(file, length, 1, NULL, 0);
+    EXPECT(REFUSED(l, 5, 1, 92) && SAME_HEAD(l, c) && SAME_HEAD(l, v));
+    length += sizeof table;
+    l = xcoff_find_line(file, length, 1, 0x10000107);
+    EXPECT(ACCEPTED(l) && l.entry == 1 && l.address == 0x10000104 && l.line == 1 && l.symbol == 5);
+    l = xcoff_find_line(file, length, 1, UINT64_MAX);
+    EXPECT(ACCEPTED(l) && l.entry == 3 && l.address == 0x10000108 && l.line == 256 && l.symbol == 5);
+    c = xcoff_line_count(file, length, 1);
+    EXPECT(ACCEPTED(c) && c.count == 4);
+    memset(rows, 0x55, sizeof rows);
+    v = xcoff_line_table(file, length, 1, rows, 13);
+    EXPECT(REFUSED(v, 20, 0, 0) && rows[0] == 0x5555555555555555);
+    v = xcoff_line_table(file, length, 1, rows, 12);
+    EXPECT(ACCEPTED(v) && rows[12] == 0x5555555555555555);
+    {
+        const xcoff_line_row *row = (const xcoff_line_row *)rows;
+        EXPECT(row[0].function == 1 && row[0].value == 5 && row[0].line == 0);
+        EXPECT(row[3].function == 0 && row[3].value == 0x10000108 && row[3].line == 256);
+    }
+    file[length - sizeof table + 5] = 1;
+    l = xcoff_find_line(file, length, 1, 0);
+    EXPECT(REFUSED(l, 32, 0, 0));
+    length -= sizeof table;
+    memcpy(file + 92, header, sizeof header);
 }
 
 static void module(void)
@@ -439,6 +490,73 @@ static void nothing(void)
     EXPECT(xcoff_salvage_count(NULL, 0).number == 1 && xcoff_salvage(NULL, 0, NULL, 0, NULL, 0).number == 1);
 }
 
+/* Plans as structs, tables by rows, names for numbers: the same as the exports. */
+static void inlines(void)
+{
+    xcoff_module_answer m = xcoff_module(file, length);
+    static xcoff_loader_symbol_row rows[9];
+    static xcoff_relocation_row entries[20];
+    static xcoff_import_row ids[4];
+    static xcoff_symbol_row all[30];
+    static uint64_t list[9], again[9], other[9];
+    static uint8_t text[160], data[160], text2[160], data2[160], sheet[24 + 72], records[2000];
+    xcoff_images images = {text, 160, data, 160}, room = {text2, 160, data2, 160};
+    xcoff_step step;
+    xcoff_checked_answer a;
+    xcoff_plan read = {0, 0, NULL, 0};
+    size_t places = 0;
+    char words[200];
+
+    EXPECT(xcoff_version() == XCOFF_VERSION && xcoff_versions_agree());
+    EXPECT(m.symbols == 9 && m.relocations == 20 && m.ids == 4 && m.text.size == 160 && m.image == 160);
+    EXPECT(XCOFF_SYMBOL_ROW_NUMBERS == 15 && XCOFF_LOADER_SYMBOL_ROW_NUMBERS == 9);
+    EXPECT(XCOFF_RELOCATION_ROW_NUMBERS == 8 && XCOFF_IMPORT_ROW_NUMBERS == 6);
+    EXPECT(xcoff_loader_symbol_rows(file, length, rows, 9).number == XCOFF_ACCEPTED);
+    EXPECT(xcoff_loader_symbol_rows(file, length, rows, 8).number == XCOFF_REFUSED_ROOM);
+    EXPECT(xcoff_relocation_rows(file, length, entries, 20).number == XCOFF_ACCEPTED && entries[0].width == 4);
+    EXPECT(xcoff_import_rows(file, length, ids, 4).number == XCOFF_ACCEPTED && ids[1].base_length == 6);
+    EXPECT(xcoff_symbol_rows(file, length, all, 30).number == XCOFF_ACCEPTED && all[29].index != 0);
+    for (size_t k = 0; k < 9; k++) {
+        list[k] = other[k] = rows[k].value;
+        places += xcoff_takes_address(&rows[k]) != 0;
+    }
+    EXPECT(places == 6 && rows[0].index == XCOFF_FIRST_LOADER_SYMBOL);
+    other[0] = 0x5000;
+    step.from.text = 0x10000, step.from.data = 0x80000, step.from.list = list, step.from.places = 9;
+    step.to.text = 0x40000, step.to.data = 0xc0000, step.to.list = other, step.to.places = 9;
+    EXPECT(xcoff_build_plan(file, length, step.from, images).number == XCOFF_ACCEPTED);
+    a = xcoff_move_checked(file, length, step, images, room);
+    EXPECT(a.call.number == XCOFF_ACCEPTED && a.were_for_from && a.call.has_entry && a.call.entry == 0xc0030);
+    EXPECT(xcoff_build_plan(file, length, step.to, room).number == XCOFF_ACCEPTED && xcoff_same_images(images, room));
+    /* A second time: they are not FROM's, and stay as they are. */
+    a = xcoff_move_checked(file, length, step, images, room);
+    EXPECT(a.call.number == XCOFF_ACCEPTED && !a.were_for_from);
+    EXPECT(xcoff_build_plan(file, length, step.to, room).number == XCOFF_ACCEPTED && xcoff_same_images(images, room));
+    EXPECT(xcoff_move_plan(file, length, step, images).number == XCOFF_ACCEPTED && !xcoff_same_images(images, room));
+    step.from.places = 8;
+    a = xcoff_move_checked(file, length, step, images, room);
+    EXPECT(a.call.number == XCOFF_REFUSED_ROOM && a.call.item == 2 && !a.were_for_from);
+
+    EXPECT(xcoff_write_sheet_plan(step.to, sheet, xcoff_sheet_length(9)).number == XCOFF_ACCEPTED);
+    EXPECT(xcoff_read_sheet_plan(sheet, sizeof sheet, again, 9, &read).number == XCOFF_ACCEPTED);
+    EXPECT(read.text == 0x40000 && read.data == 0xc0000 && read.places == 9 && memcmp(again, other, sizeof other) == 0);
+    EXPECT(xcoff_read_sheet_plan(sheet, 95, again, 9, &read).number == XCOFF_REFUSED_SHEET && read.places == 9);
+    places = xcoff_records_length_plan(file, length, read).length;
+    EXPECT(places == 805 && xcoff_write_records_plan(file, length, read, room, records, places).number == 0);
+    EXPECT(xcoff_read_records_plan(file, length, read, records, places, images).number == 0);
+    EXPECT(xcoff_same_images(images, room));
+
+    EXPECT(xcoff_section_flags(file, length, 2) == XCOFF_KIND_DATA && xcoff_section_flags(file, length, 5) == 0);
+    EXPECT(xcoff_section(file, length, 4).flag == XCOFF_KIND_LOADER);
+    /* The bss as a dwarf section of subtype 10000 (the header of section 3 is at 172). */
+    memcpy(file + 172 + 36, "\0\1\0\20", 4);
+    EXPECT(xcoff_section(file, length, 3).flag == XCOFF_KIND_DWARF && xcoff_section_flags(file, length, 3) == 0x10010);
+    memcpy(file + 172 + 36, "\0\0\0\200", 4);
+    EXPECT(strcmp(xcoff_refusal_name(XCOFF_REFUSED_LIMIT), "LIMIT") == 0);
+    EXPECT(xcoff_refusal_words(4, 5, 252, words, sizeof words) > 0);
+    EXPECT(strcmp(words, "refused 4 5 252: KIND, the flags of section 5 are not allowed") == 0);
+}
+
 int main(int argc, char **argv)
 {
     FILE *in = argc == 2 ? fopen(argv[1], "rb") : NULL;
@@ -451,6 +569,7 @@ int main(int argc, char **argv)
     headers();
     symbols();
     visibilities();
+    lines();
     module();
     offsets();
     images();
@@ -458,6 +577,7 @@ int main(int argc, char **argv)
     records_read();
     symbol_rows();
     module_rows();
+    inlines();
     module_written();
     salvaged();
     nothing();

@@ -121,7 +121,15 @@ def header_facts(text, bits):
         sections[index] = s["Name"]
         facts.append("section %x %x %x %x %x %x %s" % (
             index, number(s[paddr]), number(s[vaddr]), number(s["Size"]), number(s["RawDataOffset"]), flag, s["Name"]))
+        facts.append(table_fact(index, flag, s))
     return facts, sections
+
+
+def table_fact(index, flag, s):
+    """A section's relocation and line table as its header has them; an overflow header has a section's number for each count."""
+    counts = ["IndexOfSectionOverflowed"] * 2 if flag == 0x8000 else ["NumberOfRelocations", "NumberOfLineNumbers"]
+    return "tables %x %x %x %x %x" % (index, number(s["RelocationPointer"]), number(s[counts[0]]),
+                                      number(s["LineNumberPointer"]), number(s[counts[1]]))
 
 
 def check_sections(facts, gnu):
@@ -304,6 +312,50 @@ def symbol_facts(llvm, gnu, sections, version2):
     return facts
 
 
+def line_facts(gnu):
+    """The line numbers that objdump lists below a function's symbol, as the table has them: entries at steps of 4 bytes and one
+    line become one fact."""
+    facts, run, function = [], None, None
+    for line in gnu.splitlines():
+        symbol = re.match(r"\[ *(\d+)\]\(sec +(-?\d+)\)", line)
+        entry = re.match(r" *(\d+) : ([0-9a-f]+)$", line)
+        if symbol:
+            function = tuple(int(n) for n in symbol.groups())
+        if not entry:
+            run = None
+            continue
+        number, address = int(entry.group(1)), int(entry.group(2), 16)
+        if run and (address, number) == (run[2] + 4 * run[4], run[3] + run[4]):
+            run[4] += 1
+        else:
+            run = [function[1], function[0], address, number, 1]
+            facts.append(run)
+    return ["lines %x %x %x %x %x" % tuple(fact) for fact in facts]
+
+
+def source_facts(disassembly):
+    """File and line of each instruction that objdump lists with one: at steps of 4 bytes and one line, or of one line, they become
+    one fact. objdump adds to the table's number what the function's .bf symbol says."""
+    rows, source = [], None
+    for line in disassembly.splitlines():
+        named = re.match(r"(\S+):(\d+)$", line)
+        code = re.match(r" *([0-9a-f]+):\t", line)
+        if named:
+            source = (named.group(1), int(named.group(2)))
+        elif re.match(r"[0-9a-f]+ <.*>:$", line):
+            pass
+        elif code and source:
+            rows.append((int(code.group(1), 16),) + source)
+    runs = []
+    for address, name, number in rows:
+        last = runs[-1] if runs else None
+        if last and last[1] == name and (address, number) == (last[0] + 4 * last[3], last[2] + last[3]):
+            last[3] += 1
+        else:
+            runs.append([address, name, number, 1])
+    return ["source %x %x %x %s" % (address, number, count, name) for address, name, number, count in runs]
+
+
 def facts_of(listing):
     found = parts(listing)
     first = found["llvm-readobj-19 --file-headers --auxiliary-header --sections"]
@@ -327,6 +379,10 @@ def facts_of(listing):
         facts += symbol_facts(found["llvm-readobj-19 --syms"], found["GNU objdump -x"], sections, version_2(auxiliary, bits))
         if "GNU nm -A" in found:
             check_names(found["GNU objdump -x"], found["GNU nm -A"])
+        lines = line_facts(found["GNU objdump -x"])
+        facts += lines
+        if lines:
+            facts += source_facts("".join(text for command, text in found.items() if command.startswith("GNU objdump -l -d")))
     return facts
 
 

@@ -64,8 +64,8 @@ def refused(answer):
 
 def section(s):
     short = bytes.fromhex(s["name"]).split(b"\0")[0].hex()
-    return "%s %s %d %s" % (s["kind"], words(s, "paddr", "vaddr", "size", "scnptr"), s["has_raw"],
-                            name({"bytes": short, "at": s["header_at"]}))
+    numbers = words(s, "paddr", "vaddr", "size", "scnptr", "relptr", "nreloc", "lnnoptr", "nlnno")
+    return "%s %s %d %s" % (s["kind"], numbers, s["has_raw"], name({"bytes": short, "at": s["header_at"]}))
 
 
 def opened(o):
@@ -164,6 +164,12 @@ def record_case(case):
     return "%s %s = %s / %s" % (asked, bytes_of(lent["records"]), answer or "written", written)
 
 
+def line_case(case):
+    answer = case["expect"]["answer"]
+    given = refused(answer) or words(answer, "entry", "address", "line", "symbol")
+    return "find_line %s = %s" % (words(case, "section", "address"), given)
+
+
 def changes(before, after):
     """Where bytes differ from others of the same length: each run by its offset, between commas; - where none does."""
     runs, at = [], 0
@@ -225,6 +231,8 @@ def whole_line(case):
         return sheet_case(case)
     if case["op"].startswith("srecord"):
         return record_case(case)
+    if case["op"] == "find_line":
+        return line_case(case)
     if case["op"] in ("salvage", "write_module"):
         return file_case(case)
     answer = case["expect"]["answer"]
@@ -304,7 +312,9 @@ def is_within_old_limits(case):
 
 def stands(case):
     """Whether no request that came after the case can change its answer. Request 1: names of debug classes. Request 9: types
-    that have a visibility. Request 10: sheets and limits."""
+    that have a visibility. Request 10: sheets and limits. Operations on object files, request 5, are not in the library yet."""
+    if case["op"].startswith("object"):
+        return False
     data = file_of(case)
     bits, table = symbol_table(data)
     entries = entries_of(case, table)

@@ -66,7 +66,8 @@ pub fn mend_entry(copy: &mut [u8], t: Tables, i: SymbolIndex, e: SymbolEntry, r:
     let ntype = l.ntype;
     let start = t.start;
     let base = (start.0 + i.0 * format::SYMBOL_LENGTH) as usize;
-    put_if(copy, r.aux, base, numaux, t.count - (i.0 + 1));
+    let left = t.count - (i.0 + 1);
+    put_if(copy, r.aux, base, numaux, left);
     put_if(copy, r.scnum, base, scnum, 0);
     put_if(copy, r.name, base, offset, 0);
     put_if(copy, r.visibility, base, ntype, without_visibility(e.ntype));

@@ -1,3 +1,4 @@
 -- The laws of salvaging.
 pub mod Turn
 pub mod Answer
+pub mod Named

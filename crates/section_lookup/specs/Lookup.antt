@@ -43,7 +43,7 @@ nameOf file y n = textIn (sectionLayout (y .format) .name) (sectionStart (y .for
 unfoldable pub sectionNameAt : List ℕ → SectionNumber → RangeAnswer
 sectionNameAt file n = byVerdict (lookupCheck file n) (range.Found (nameOf file (openOf file .summary) n)) range.Refused
 
--- the answer in document 01's numbers
+-- the answer in document 01's numbers; the two tables' offsets and counts as the header has them
 abbrev pub reportOfSection : List ℕ → SectionAnswer → SectionReport
 reportOfSection file (Found s) =
     record {
@@ -54,9 +54,13 @@ reportOfSection file (Found s) =
       scnptr = s .scnptr .0;
       flag = flagsOf (s .kind) % 65536;
       raw = oneIf (s .raw);
+      relptr = s .relptr .0;
+      nreloc = s .nreloc;
+      lnnoptr = s .lnnoptr .0;
+      nlnno = s .nlnno;
     }
 reportOfSection file (Refused x) =
-    record { head = refusalHead file x; paddr = 0; vaddr = 0; size = 0; scnptr = 0; flag = 0; raw = 0 }
+    record { head = refusalHead file x; paddr = 0; vaddr = 0; size = 0; scnptr = 0; flag = 0; raw = 0; relptr = 0; nreloc = 0; lnnoptr = 0; nlnno = 0 }
 
 abbrev pub sectionReport : List ℕ → SectionNumber → SectionReport
 sectionReport file n = reportOfSection file (sectionAt file n)

@@ -13,7 +13,8 @@ use refusal::Refusal;
 use refusal::Verdict;
 use section::SectionAnswer;
 
-// `flag` is the low 16 bits of the section's flags, `raw` 1 where raw data exists.
+// `flag` is the low 16 bits of the section's flags, `raw` 1 where raw data exists. The numbers of the two tables are the
+// header's own: a count that stands in an overflow header is not looked up.
 #[repr(C)]
 pub struct SectionReport {
     pub head: Head,
@@ -23,10 +24,14 @@ pub struct SectionReport {
     pub scnptr: u64,
     pub flag: u64,
     pub raw: u64,
+    pub relptr: u64,
+    pub nreloc: u64,
+    pub lnnoptr: u64,
+    pub nlnno: u64,
 }
 
 // Opening's refusal, or INDEX where the file has no section `n`.
-fn check_number(v: Verdict, count: u64, n: SectionNumber) -> Verdict
+pub fn check_number(v: Verdict, count: u64, n: SectionNumber) -> Verdict
     ensures { λ r. ⌜ r ≡ (v orElse numberCheck count n) ⌝ }
 {
     if refusal::refuses(v) {
@@ -101,11 +106,17 @@ pub fn report_section(file: &[u8], a: SectionAnswer) -> SectionReport
             scnptr: 0,
             flag: 0,
             raw: 0,
+            relptr: 0,
+            nreloc: 0,
+            lnnoptr: 0,
+            nlnno: 0,
         },
         SectionAnswer::Found(s) => {
             let paddr = s.paddr;
             let vaddr = s.vaddr;
             let scnptr = s.scnptr;
+            let relptr = s.relptr;
+            let lnnoptr = s.lnnoptr;
             let kind = s.kind;
             SectionReport {
                 head: refusal::accepted_head(),
@@ -115,6 +126,10 @@ pub fn report_section(file: &[u8], a: SectionAnswer) -> SectionReport
                 scnptr: scnptr.0,
                 flag: kind.flags() % 65536,
                 raw: refusal::one_if(s.raw),
+                relptr: relptr.0,
+                nreloc: s.nreloc,
+                lnnoptr: lnnoptr.0,
+                nlnno: s.nlnno,
             }
         }
     }

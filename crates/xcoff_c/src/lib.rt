@@ -24,6 +24,8 @@ ghost use Rattle.module_table.specs.Table.{tableCheck, tableAfter};
 ghost use Rattle.loader_symbol_table.specs.Rows.{loaderSymbols};
 ghost use Rattle.relocation_table.specs.Rows.{relocations};
 ghost use Rattle.import_table.specs.Imports.{imports};
+ghost use Rattle.line_lookup.specs.Lookup.{countReport, lineReport};
+ghost use Rattle.line_table.specs.Table.{lineTableCheck, linesAfter};
 ghost use Rattle.salvage.specs.Answer.{countAnswer, salvageAnswer, copyAfter, reportAfter, reportOfCount};
 ghost use Rattle.offset.specs.Report.{reportHead, reportOfRange};
 use csect_lookup::CsectReport;
@@ -34,6 +36,8 @@ use format::VirtualAddress;
 use header::OpenReport;
 use image::CallReport;
 use import_id::ImportString;
+use line_lookup::LineCountReport;
+use line_lookup::LineReport;
 use loadable::ModuleReport;
 use lookup::LoaderSymbolReport;
 use offset::RangeReport;
@@ -45,6 +49,14 @@ use sheet::SheetReport;
 use srecord::LengthReport;
 use symbol_lookup::SymbolReport;
 use walk::WalkReport;
+
+// Which version of this interface the archive has: XCOFF_VERSION of the header that it was made with.
+#[no_mangle]
+pub extern "C" fn xcoff_version() -> u64
+    ensures { λ r. ⌜ r ≡ 1 ⌝ }
+{
+    1
+}
 
 // Opens a file: its format and how much it holds.
 #[no_mangle]
@@ -343,6 +355,40 @@ pub extern "C" fn xcoff_import_table(file: &[u8], rows: &mut [u64]) -> Head
     ensures rows { λ _. ⌜ now (rows .exit) ≡ tableAfter imports (now (file .entry)) (now (rows .entry)) ⌝ }
 {
     offset::report_head(file, import_table::import_table(file, rows))
+}
+
+// The entry for an address in the line table of text section `section`.
+#[no_mangle]
+pub extern "C" fn xcoff_find_line(file: &[u8], section: u64, address: u64) -> LineReport
+    ensures { λ r. ⌜ r ≡ lineReport (now (file .entry)) (record { 0 = section }) address ⌝ }
+{
+    line_lookup::report_line(
+        file,
+        line_lookup::find_line(file, SectionNumber(section), address),
+    )
+}
+
+// How many entries that table has.
+#[no_mangle]
+pub extern "C" fn xcoff_line_count(file: &[u8], section: u64) -> LineCountReport
+    ensures { λ r. ⌜ r ≡ countReport (now (file .entry)) (record { 0 = section }) ⌝ }
+{
+    line_lookup::report_count(
+        file,
+        line_lookup::find_line_table(file, SectionNumber(section)),
+    )
+}
+
+// Lists them: a row of 3 numbers for each.
+#[no_mangle]
+pub extern "C" fn xcoff_line_table(file: &[u8], section: u64, rows: &mut [u64]) -> Head
+    ensures answer { λ r. ⌜ r ≡ reportHead (now (file .entry)) (lineTableCheck (now (file .entry)) (record { 0 = section }) (length (now (rows .entry)))) ⌝ }
+    ensures rows { λ _. ⌜ now (rows .exit) ≡ linesAfter (now (file .entry)) (record { 0 = section }) (now (rows .entry)) ⌝ }
+{
+    offset::report_head(
+        file,
+        line_table::line_table(file, SectionNumber(section), rows),
+    )
 }
 
 // How many changes salvaging the symbol table of a file makes.

@@ -1,6 +1,6 @@
 //! One operation, run by both implementations.
 
-use crate::{images, later, places, read, records, rewrites, salvages};
+use crate::{images, later, lines, places, read, records, rewrites, salvages};
 use reference::generate::Op;
 use reference::Refusal;
 use std::fmt::Debug;
@@ -64,6 +64,7 @@ fn run_both(file: &[u8], op: &Op) -> Agreement {
             text,
             data,
         } => records::read(file, plan, records, (text, data)),
+        Op::FindLine { section, address } => lines::find(file, *section, *address),
         Op::WriteModule { plan, out } => rewrites::write(file, plan, out),
         Op::Salvage { copy, report } => salvages::salvage(file, copy, report),
         _ if later::is_later(op) => later::alone(file, op),

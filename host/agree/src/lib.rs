@@ -7,6 +7,7 @@ mod every;
 mod images;
 mod later;
 mod lent;
+mod lines;
 mod lister;
 mod places;
 mod read;

@@ -112,18 +112,21 @@ fn up_to_zero(file: &[u8], name: Range<usize>) -> Range<usize> {
 
 // ---- headers
 
-type Section = (u64, u64, u64, u64, u64, bool);
+/// The record, and the two tables as the header has them.
+type Section = ((u64, u64, u64, u64, u64, bool), [u64; 4]);
 
 fn our_section(s: xcoff::Section) -> Section {
     let flag = match s.kind {
         xcoff::Kind::Deleted => 0xFFFF_FFFF,
         kind => 8 << kind as u64,
     };
-    (flag, s.paddr, s.vaddr, s.size, s.scnptr, s.raw)
+    let tables = [s.relptr, s.nreloc, s.lnnoptr, s.nlnno];
+    ((flag, s.paddr, s.vaddr, s.size, s.scnptr, s.raw), tables)
 }
 
 fn their_section(s: reference::Section) -> Section {
-    (s.flags, s.paddr, s.vaddr, s.size, s.scnptr, s.raw.is_some())
+    let record = (s.flags, s.paddr, s.vaddr, s.size, s.scnptr, s.raw.is_some());
+    (record, [s.relptr, s.nreloc, s.lnnoptr, s.nlnno])
 }
 
 fn bits(format: xcoff::Format) -> u64 {

@@ -15,11 +15,11 @@ mul-base c = search needs
 add-base : tie.Need-add-base
 add-base c = search needs
 
-add-put-if : tie.Need-add-put-if
-add-put-if c = search needs
+add-left : tie.Need-add-left
+add-left c = search needs
 
-sub-put-if : tie.Need-sub-put-if
-sub-put-if c = search needs
+sub-left : tie.Need-sub-left
+sub-left c = search needs
 
 put-if-requires : tie.Need-put-if-requires
 put-if-requires c κs = symbol-inside (c .before .before .before .before .before .before .before .before .before .before .before .before .args .t .format) _ _ (c .before .before .before .before .before .before .before .before .before .before .symbol-layout .ensures) (c .before .before .before .before .before .before .before .before .before .before .before .before .pre .0) .numaux
@@ -49,8 +49,8 @@ mend-entry-spec =
     symbol-layout-requires
     mul-base
     add-base
-    add-put-if
-    sub-put-if
+    add-left
+    sub-left
     put-if-requires
     put-if-requires-2
     put-if-requires-3

@@ -24,7 +24,7 @@ returns : tie.Need-returns
 returns c = rw (c .before .before .a .given .1, c .refusal-head .ensures)
 
 returns-2 : tie.Need-returns-2
-returns-2 c = rw (c .before .before .before .before .before .before .before .a2 .given .1, c .before .before .accepted-head .ensures, c .before .flags .ensures, c .one-if .ensures)
+returns-2 c = rw (c .before .before .before .before .before .before .before .before .before .a2 .given .1, c .before .before .accepted-head .ensures, c .before .flags .ensures, c .one-if .ensures)
 
 pub report-section-spec : {M : Type 1} → statement M
 report-section-spec =

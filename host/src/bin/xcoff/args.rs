@@ -67,6 +67,19 @@ impl Arguments {
         Some(values.iter().map(Path::new).collect())
     }
 
+    /// The decimal number of an option that is given at most once.
+    pub fn number(&self, name: &'static str) -> Result<Option<u64>, Problem> {
+        let Some(value) = self.each(name).next() else {
+            return Ok(None);
+        };
+        decimal(value[0].as_bytes()).map(Some).ok_or_else(|| {
+            let shown = escape::argument(&value[0]);
+            self.wrong(format!(
+                "{name}: {shown} is not a decimal number of at most 64 bits"
+            ))
+        })
+    }
+
     fn option(
         &mut self,
         word: OsString,
@@ -170,4 +183,14 @@ pub fn hex(text: &[u8]) -> Option<u64> {
     let plain = !digits.is_empty() && digits.iter().all(u8::is_ascii_hexdigit);
     let digits = std::str::from_utf8(digits).ok().filter(|_| plain)?;
     u64::from_str_radix(digits, 16).ok()
+}
+
+/// A number of at most 64 bits in decimal digits.
+pub fn decimal(text: &[u8]) -> Option<u64> {
+    let plain = text.iter().all(u8::is_ascii_digit);
+    std::str::from_utf8(text)
+        .ok()
+        .filter(|_| plain)?
+        .parse()
+        .ok()
 }

@@ -24,6 +24,8 @@ pub enum Cell<'a> {
 
 pub struct Column {
     name: &'static str,
+    /// What people read above it, where that is another word.
+    heading: Option<&'static str>,
     shape: Shape,
 }
 
@@ -38,20 +40,18 @@ enum Shape {
 
 /// A number of so many hexadecimal digits.
 pub fn hex(name: &'static str, digits: usize) -> Column {
-    let shape = Shape::Hex(digits);
-    Column { name, shape }
+    Column::new(name, Shape::Hex(digits))
 }
 
 /// Numbers up to the greatest one.
 pub fn number(name: &'static str, greatest: u64) -> Column {
-    let shape = Shape::Right(greatest.checked_ilog10().unwrap_or(0) as usize + 1);
-    Column { name, shape }
+    let digits = greatest.checked_ilog10().unwrap_or(0) as usize + 1;
+    Column::new(name, Shape::Right(digits))
 }
 
 /// Words of at most so many characters. A longer one pushes the rest of its line to the right.
 pub fn word(name: &'static str, width: usize) -> Column {
-    let shape = Shape::Left(width);
-    Column { name, shape }
+    Column::new(name, Shape::Left(width))
 }
 
 /// Names that are not the last column: wide enough for all of them, up to a bound, since every row pays for it.
@@ -60,9 +60,29 @@ pub fn names<'a>(name: &'static str, all: impl Iterator<Item = &'a [u8]>) -> Col
 }
 
 impl Column {
+    fn new(name: &'static str, shape: Shape) -> Column {
+        Column {
+            name,
+            heading: None,
+            shape,
+        }
+    }
+
+    /// The column with another word above it for people.
+    pub fn headed(self, word: &'static str) -> Column {
+        Column {
+            heading: Some(word),
+            ..self
+        }
+    }
+
+    fn heading(&self) -> &'static str {
+        self.heading.unwrap_or(self.name)
+    }
+
     fn width(&self) -> usize {
         let (Shape::Hex(width) | Shape::Right(width) | Shape::Left(width)) = self.shape;
-        width.max(self.name.len())
+        width.max(self.heading().len())
     }
 }
 
@@ -111,7 +131,7 @@ impl<'w> Listing<'w> {
         }
         self.line.clear();
         for column in &self.columns {
-            pad(&mut self.line, column, column.name);
+            pad(&mut self.line, column, column.heading());
         }
         self.end_line()
     }
@@ -129,6 +149,11 @@ impl<'w> Listing<'w> {
             }
         }
         self.end_line()
+    }
+
+    /// What was listed so far goes out at once.
+    pub fn flush(&mut self) -> io::Result<()> {
+        self.out.flush()
     }
 
     fn json_row(&mut self, cells: &[Cell]) {

@@ -15,10 +15,10 @@ use xcoff::{
     SymbolRow, SymbolTable,
 };
 
-type Lister = fn(&Arguments, &Path) -> Result<(), Problem>;
+pub type Lister = fn(&Arguments, &Path) -> Result<(), Problem>;
 
 /// Lists each file; what is wrong with one of several is said, and the others are listed all the same.
-fn each(args: &Arguments, list: Lister) -> Result<(), Problem> {
+pub fn each(args: &Arguments, list: Lister) -> Result<(), Problem> {
     if let [path] = args.operands() {
         return list(args, path);
     }
@@ -44,7 +44,7 @@ fn each(args: &Arguments, list: Lister) -> Result<(), Problem> {
 }
 
 /// A listing of a file, under its name where there are several.
-fn open<'w>(args: &Arguments, out: &'w mut dyn Write, path: &'w Path) -> Listing<'w> {
+pub fn open<'w>(args: &Arguments, out: &'w mut dyn Write, path: &'w Path) -> Listing<'w> {
     let several = args.operands().len() > 1;
     Listing::new(out, args.has("--json")).of(several.then_some(path))
 }
@@ -119,6 +119,10 @@ fn section_columns(opened: &Opened, sections: &[(Section, &[u8])]) -> Vec<Column
         number("size", greatest(|s| s.size)),
         number("offset", greatest(|s| s.scnptr)),
         word("raw", 3),
+        number("relptr", greatest(|s| s.relptr)),
+        number("nreloc", greatest(|s| s.nreloc)),
+        number("lnnoptr", greatest(|s| s.lnnoptr)),
+        number("nlnno", greatest(|s| s.nlnno)),
         word("name", 0),
     ]
 }
@@ -132,6 +136,10 @@ fn section_row(list: &mut Listing, n: u64, section: &Section, name: &[u8]) -> io
         Cell::Number(section.size),
         Cell::Number(section.scnptr),
         Cell::Flag(section.raw),
+        Cell::Number(section.relptr),
+        Cell::Number(section.nreloc),
+        Cell::Number(section.lnnoptr),
+        Cell::Number(section.nlnno),
         Cell::Name(name),
     ])
 }

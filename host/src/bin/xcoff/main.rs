@@ -16,12 +16,15 @@ mod given;
 mod images;
 mod imports;
 mod kinds;
+mod line;
+mod lined;
 mod listing;
 mod lists;
 mod load;
 mod lock;
 mod near;
 mod output;
+mod pages;
 mod plans;
 mod problem;
 mod records;
@@ -57,10 +60,7 @@ fn run(mut words: Vec<OsString>) -> Result<(), Problem> {
     }
     let first = words.remove(0);
     if first == "--help" || first == "-h" || first == "help" {
-        return match words.first() {
-            None => print_text(&syntax::overview()),
-            Some(name) => print_text(&named(name)?.help_text()),
-        };
+        return help(&words);
     }
     if first == "--version" || first == "-V" || first == "version" {
         return print_text(concat!("xcoff ", env!("CARGO_PKG_VERSION"), "\n"));
@@ -71,6 +71,17 @@ fn run(mut words: Vec<OsString>) -> Result<(), Problem> {
         return print_text(&command.help_text());
     }
     (command.run)(&Arguments::parse(command, words)?)
+}
+
+/// `help`, `help COMMAND`; for those who install the command also `help --man`, `help --man COMMAND` and `help --bash`.
+fn help(words: &[OsString]) -> Result<(), Problem> {
+    print_text(&match words {
+        [] => syntax::overview(),
+        [bash] if bash == "--bash" => pages::bash(),
+        [man] if man == "--man" => pages::man(None),
+        [man, name, ..] if man == "--man" => pages::man(Some(named(name)?)),
+        [name, ..] => named(name)?.help_text(),
+    })
 }
 
 fn named(name: &OsStr) -> Result<&'static Command, Problem> {

@@ -56,8 +56,17 @@ pub fn refused<T>(path: &Path, answer: Result<T, Refusal>) -> Result<T, Problem>
 
 /// An answer about an XCOFF file: what stands where a refusal points is shown.
 pub fn refused_in<T>(path: &Path, file: &[u8], answer: Result<T, Refusal>) -> Result<T, Problem> {
+    refused_about(|| escape::argument(path), file, answer)
+}
+
+/// The same about a part of a file.
+pub fn refused_about<T>(
+    about: impl FnOnce() -> String,
+    file: &[u8],
+    answer: Result<T, Refusal>,
+) -> Result<T, Problem> {
     answer.map_err(|refusal| Problem::Refused {
-        about: escape::argument(path),
+        about: about(),
         refusal,
         shown: shown_of(file, &refusal),
     })

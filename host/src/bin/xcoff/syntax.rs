@@ -2,7 +2,7 @@
 
 use crate::args::Arguments;
 use crate::problem::Problem;
-use crate::{check, images, lists, plans, records, rewrite, salvage};
+use crate::{check, images, line, lined, lists, plans, records, rewrite, salvage};
 
 pub struct Command {
     pub name: &'static str,
@@ -73,7 +73,7 @@ const fn lister(
     }
 }
 
-pub static COMMANDS: [Command; 14] = [
+pub static COMMANDS: [Command; 16] = [
     lister(
         "headers",
         "the file header and the sections",
@@ -110,6 +110,25 @@ pub static COMMANDS: [Command; 14] = [
             RELOCATIONS,
             lists::relocations,
         )
+    },
+    Command {
+        usage: "FILE... [--section N] [--json]",
+        options: &[flag("--section", &["N"]), flag("--json", &[])],
+        ..lister("lines", "the line number tables", LINES, lined::lines)
+    },
+    Command {
+        name: "line",
+        usage: "FILE [--sheet SHEET] [--section N] [--json] ADDRESS...",
+        operands: &["FILE", "ADDRESS"],
+        optional: usize::MAX,
+        options: &[
+            flag("--sheet", &["SHEET"]),
+            flag("--section", &["N"]),
+            flag("--json", &[]),
+        ],
+        summary: "the line of an address",
+        help: LINE,
+        run: line::line,
     },
     Command {
         name: "plan",
@@ -290,6 +309,13 @@ pub fn overview() -> String {
     text
 }
 
+/// What the numbers mean that a command ends with.
+pub fn exit_status() -> &'static str {
+    let paragraphs = OVERVIEW_END.split("\n\n");
+    let mut own = paragraphs.filter_map(|words| words.strip_prefix("Exit status: "));
+    own.next().expect("the overview has them")
+}
+
 const OVERVIEW_START: &str = "\
 usage: xcoff COMMAND ARGUMENT...
 
@@ -325,7 +351,10 @@ const HEADERS: &str = "\
 Lists the file header (its sections, the entries of its symbol table, the bytes
 of its auxiliary header, its flags) and every section header: the section's
 number, its kind, its physical and virtual address, its size in bytes, where its
-raw data lies in the file and whether there is any, and its name.
+raw data lies in the file and whether there is any, where its relocation table
+and its line number table lie and how many entries each has ('relptr', 'nreloc',
+'lnnoptr', 'nlnno'), and its name. The counts are those of the header: 65535 of an
+XCOFF32 file may stand for the count in an overflow header ('ovrflo').
 
   xcoff headers diag.xcoff
 
@@ -388,6 +417,42 @@ by is added or subtracted, the type, and the symbol (0 text, 1 data, 2 bss, from
                   @INDEX where two imports have one name, or one is named text or
                   data
 --json            one object a line
+";
+
+const LINES: &str = "\
+Lists the line number tables of the text sections whole. An entry with line 0 begins
+a function: 'symbol' is the index of its symbol, 'function' its name. Every other has
+the address where the code of a line begins, and the line, 'relative' to the start of
+the function as the table has it. 'absolute' is the line in the source file, where
+the function's .bf symbol says in which line the function starts, else '-'.
+
+  xcoff lines diag.o
+
+--section N  only the table of text section N
+--json       one object a line; what is 'relative' is 'line' there
+";
+
+const LINE: &str = "\
+Finds the line of each address: the entry of the line number table with the greatest
+address not above it, the first such in the table. 'asked' is the address as given,
+'address' where the entry's code begins in the file's own addresses, 'relative' the
+line as the table has it, counted from the start of the function. 'absolute' is the
+line in the source file, where the function's .bf symbol says in which line the
+function starts; 'source' is that file, where a .file symbol names it; else '-'.
+
+  xcoff line diag.xcoff --sheet card7.sheet 10010 1004c
+  xcoff line diag.o 1c
+
+The table is that of the text section that holds the address. An address in no text
+section, or below the first line, has no line: exit status 1. Of several addresses
+each has a row, empty where there is no line, and the reasons are on standard error.
+
+-              for ADDRESS: an address on each line of standard input; each is
+               answered as it comes
+--sheet SHEET  the addresses are those of the card that the sheet is for; without
+               it they are the file's own
+--section N    the table of text section N, wherever the address lies
+--json         one object a line; what is 'relative' is 'line' there
 ";
 
 const PLAN: &str = "\

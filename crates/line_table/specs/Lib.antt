@@ -1,0 +1,2 @@
+-- What the contracts of `line_table` cite.
+pub mod Table

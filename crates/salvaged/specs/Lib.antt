@@ -1,0 +1,2 @@
+-- What the theorems of `salvaged` speak of.
+pub mod Claim

@@ -1,0 +1,1 @@
+// What holds of a salvaged file: the theorems of request 12. Definitions and theorems; no code.

@@ -1,0 +1,2 @@
+-- What the contracts of `section_tables` cite.
+pub mod Tables

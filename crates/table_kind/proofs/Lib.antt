@@ -1,0 +1,2 @@
+-- Laws of a table's places, for the crates above.
+pub mod Places

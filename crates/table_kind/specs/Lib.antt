@@ -1,0 +1,2 @@
+-- What the contracts of `table_kind` cite.
+pub mod Kind

@@ -1,0 +1,185 @@
+//! include/xcoff_words.h has the words of every refusal for C. It is made from those of this package, by this test:
+//!
+//!     MAKE_WORDS=1 cargo test --test c_words
+//!
+//! writes it anew; without that the test fails where the two differ. The inline functions are tried in tests/c/check.c.
+
+use std::fmt::Write;
+use std::path::PathBuf;
+use std::process::Command;
+use xcoff::Refusal;
+
+/// An item that no rule speaks of by itself: where the words have it, they name the item.
+const ANY: u64 = 4_000_000_007;
+
+const START: &str = r#"/*
+ * The words of a refusal, in English, for C. Made by host/tests/c_words.rs from the words of the Rust library.
+ */
+#ifndef XCOFF_WORDS_H
+#define XCOFF_WORDS_H
+
+#include <inttypes.h>
+#include <stdint.h>
+#include <stdio.h>
+#include <string.h>
+
+#ifdef __cplusplus
+extern "C" {
+#endif
+
+/* Of each number its name, and the words of its items: those of one item, or of all others, with % for the item. */
+typedef struct xcoff_words {
+    uint64_t number;
+    int one;            /* 1: of `item` alone */
+    uint64_t item;
+    const char *name;
+    const char *meaning;
+} xcoff_words;
+
+static inline const xcoff_words *xcoff_words_of(uint64_t number, uint64_t item)
+{
+    static const xcoff_words all[] = {
+"#;
+
+const END: &str = r#"    };
+    size_t n = 0;
+    while (all[n].number != number && all[n].number != 0)
+        n++;
+    while (all[n].one && all[n].item != item)
+        n++;
+    return &all[n];
+}
+
+/* A number's name, such as "LIMIT". */
+static inline const char *xcoff_refusal_name(uint64_t number)
+{
+    return xcoff_words_of(number, 0)->name;
+}
+
+/* "refused N I O: NAME, what it means", cut where `room` bytes are too few, as snprintf does; its answer is snprintf's. */
+static inline int xcoff_refusal_words(uint64_t number, uint64_t item, uint64_t offset, char *text, size_t room)
+{
+    const xcoff_words *words = xcoff_words_of(number, item);
+    const char *rest = words->meaning;
+    char meaning[400];
+    size_t used = 0;
+    while (*rest && used + 21 < sizeof meaning) {
+        if (*rest == '%')
+            used += (size_t)snprintf(meaning + used, sizeof meaning - used, "%" PRIu64, item);
+        else
+            meaning[used++] = *rest;
+        rest++;
+    }
+    meaning[used] = 0;
+    return snprintf(text, room, "refused %" PRIu64 " %" PRIu64 " %" PRIu64 ": %s, %s", number, item, offset, words->name,
+                    meaning);
+}
+
+#ifdef __cplusplus
+}
+#endif
+
+#endif
+"#;
+
+fn refusal(number: u64, item: u64) -> Refusal {
+    Refusal {
+        number,
+        item,
+        offset: 0,
+    }
+}
+
+fn made() -> String {
+    let mut text = START.to_string();
+    let known = (1..100).filter(|&n| refusal(n, 0).name() != "UNKNOWN");
+    // The last row, with number 0, is for every other number.
+    for number in known.chain([0]) {
+        let name = refusal(number, 0).name();
+        let any = refusal(number, ANY)
+            .meaning()
+            .replace(&ANY.to_string(), "%");
+        let mut row = |one: u8, item: u64, meaning: &str| {
+            assert!(!meaning.contains(['"', '\\']) && meaning.len() < 350);
+            writeln!(
+                text,
+                "        {{{number}, {one}, {item}, \"{name}\", \"{meaning}\"}},"
+            )
+            .unwrap();
+        };
+        for item in 0..10 {
+            let own = refusal(number, item).meaning();
+            if own != any.replace('%', &item.to_string()) {
+                row(1, item, &own);
+            }
+        }
+        row(0, 0, &any);
+    }
+    text + END
+}
+
+fn root() -> PathBuf {
+    PathBuf::from(env!("CARGO_MANIFEST_DIR")).join("..")
+}
+
+#[test]
+fn the_words_in_c_are_those_of_the_rust_library() {
+    let path = root().join("include/xcoff_words.h");
+    if std::env::var_os("MAKE_WORDS").is_some() {
+        std::fs::write(&path, made()).unwrap();
+    }
+    assert_eq!(std::fs::read_to_string(&path).unwrap(), made());
+}
+
+/// Compiled and run: each number with items that have words of their own and items that have not.
+#[test]
+fn what_c_prints_is_what_rust_prints() {
+    let folder = std::env::temp_dir().join(format!("xcoff-words-{}", std::process::id()));
+    std::fs::create_dir(&folder).unwrap();
+    let program = r#"#include "xcoff_words.h"
+int main(void)
+{
+    char text[500];
+    for (uint64_t n = 0; n < 60; n++)
+        for (uint64_t i = 0; i < 12; i++) {
+            xcoff_refusal_words(n, i == 11 ? UINT64_MAX : i, n * i, text, sizeof text);
+            puts(text);
+        }
+    return xcoff_refusal_words(1, 2, 3, text, 9) < 9 || strcmp(text, "refused ") != 0;
+}
+"#;
+    std::fs::write(folder.join("words.c"), program).unwrap();
+    let built = Command::new("cc")
+        .args([
+            "-std=c99",
+            "-Wall",
+            "-Wextra",
+            "-pedantic",
+            "-Werror",
+            "words.c",
+            "-o",
+            "words",
+            "-I",
+        ])
+        .arg(root().join("include").canonicalize().unwrap())
+        .current_dir(&folder)
+        .status();
+    assert!(built.unwrap().success());
+    let ran = Command::new(folder.join("words")).output().unwrap();
+    std::fs::remove_dir_all(&folder).unwrap();
+    assert!(ran.status.success());
+    let mut expected = String::new();
+    for number in 0..60 {
+        for i in 0..12 {
+            let item = if i == 11 { u64::MAX } else { i };
+            let offset = number * i;
+            let refusal = Refusal {
+                number,
+                item,
+                offset,
+            };
+            writeln!(expected, "{refusal}").unwrap();
+        }
+    }
+    assert_eq!(String::from_utf8(ran.stdout).unwrap(), expected);
+}
