@@ -1,0 +1,3 @@
+-- The theorems.
+pub mod Found
+pub mod Built
