@@ -78,6 +78,8 @@ impl Commands {
             module = status;
         }
         self.lines();
+        assert!(self.run("symbols m --sort name --name *a*") <= 1);
+        assert!(self.run("symbols m --sort value") <= 1);
         for address in ["text", "data", "@3", "puts"] {
             let status = self.run(&format!("relocations m --follows {address}"));
             assert!(status == module || module == 0 && status == 2, "{address}: status {status}");
@@ -175,8 +177,12 @@ impl Commands {
         let hash = input.iter().fold(0xcbf29ce484222325u64, |h, &b| (h ^ b as u64).wrapping_mul(0x100000001b3));
         assert_eq!(self.run("plan m --recorded -o s"), 0);
         assert_eq!(self.run("sheet s m"), 0);
-        assert_eq!(self.run("build m s -o t d"), 0);
+        assert_eq!(self.run("build m s -o t d --force"), 0);
         assert_eq!(self.run("check m s t d"), 0);
+        assert_eq!(self.run("dump m s"), 0);
+        assert_eq!(self.run("map m s"), 0);
+        assert_eq!(self.run("map m s --json"), 0);
+        assert_eq!(self.run("map m s --svg picture --force"), 0);
         self.records();
         self.rewrite(input);
         assert!(self.run("plan m --import @3=ffffffff --text 0 --recorded -o s2") <= 2);
@@ -193,18 +199,18 @@ impl Commands {
         if self.run("rewrite m s2 -o m2 --force") == 0 {
             assert_eq!(self.run("rewrite m2 s -o m3 --force"), 0);
             assert_eq!(fs::read("m3").unwrap(), input);
-            assert_eq!(self.run("build m2 s -o t2 d2"), 0);
+            assert_eq!(self.run("build m2 s -o t2 d2 --force"), 0);
             assert_eq!(self.run("check m s t2 d2"), 0);
         }
-        assert_eq!(self.run("move m s s2 t d -o t2 d2"), 0);
+        assert_eq!(self.run("move m s s2 t d -o t2 d2 --force"), 0);
         assert_eq!(self.run("check m s t d"), 0);
         assert_eq!(self.run("check m s2 t2 d2"), 0);
-        assert_eq!(self.run("move m s s2 t d"), 0);
+        assert_eq!(self.run("move m s s2 t d --force"), 0);
         assert_eq!(self.run("check m s t d --or s2"), 0);
         // A second time it is refused, or changes nothing since the plan's fields are the same.
-        assert!(self.run("move m s s2 t d") <= 1);
+        assert!(self.run("move m s s2 t d --force") <= 1);
         assert_eq!(self.run("check m s2 t d"), 0);
-        assert_eq!(self.run("move m s2 s t d"), 0);
+        assert_eq!(self.run("move m s2 s t d --force"), 0);
         assert_eq!(self.run("check m s t d"), 0);
     }
 
@@ -226,7 +232,7 @@ impl Commands {
         if written == 0 {
             assert_eq!(fs::read("r").unwrap(), fs::read("r2").unwrap());
             assert_eq!(self.run("check m s --records r"), 0);
-            assert_eq!(self.run("images m s r -o t2 d2"), 0);
+            assert_eq!(self.run("images m s r -o t2 d2 --force"), 0);
             assert_eq!(self.run("check m s t2 d2"), 0);
         }
     }

@@ -1296,6 +1296,7 @@ int fuzz_next(const uint8_t **input, size_t *length);
 int main(int argc, char **argv)
 {
     size_t i;
+    PROMISE(xcoff_version() == XCOFF_VERSION);
     for (i = 0; i < sizeof made; i++)
         made[i] = pattern(i);
     map_all();

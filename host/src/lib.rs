@@ -39,7 +39,7 @@ pub use salvage::{
     changed_fields, changes, salvage, salvage_count, salvage_into, Change, ChangedField, Salvaged,
 };
 pub use shared::{shared_in_module, shared_with_symbols, FilePart, FileRange};
-pub use source::{Source, Sources};
+pub use source::{source_name, Source, Sources};
 pub use tables::{
     import_table, loader_symbol_table, relocation_table, symbol_table, Image, ImportId,
     ImportTable, LoaderRow, Relocation, SymbolRow, SymbolTable,

@@ -1,7 +1,7 @@
 //! What debugging symbols say of the lines of a function: where in its source file it starts, and which file that is. It is
 //! for showing alone: nothing is judged by it, and what the symbols do not say is none.
 
-use crate::{open, symbol_table, Format, FoundLine, Refusal, Section, SymbolRow};
+use crate::{open, symbol_table, Format, FoundLine, Opened, Refusal, Section, SymbolRow};
 use std::collections::HashMap;
 
 /// Storage classes: external symbols, which functions have, and those for debuggers.
@@ -124,6 +124,12 @@ struct Passed<'a> {
     included: Vec<(u64, &'a [u8])>,
 }
 
+/// The name of the source file that a symbol of class FILE, of a file that opens, tells of in one of its auxiliary entries.
+pub fn source_name<'a>(file: &'a [u8], opened: &Opened, row: &SymbolRow) -> Option<&'a [u8]> {
+    let tables = Tables::new(file, opened.format, opened.symbols);
+    tables.file_name(tables.file_entry(row)?)
+}
+
 /// Where auxiliary entries and strings lie.
 struct Tables<'a> {
     file: &'a [u8],
@@ -169,15 +175,26 @@ impl<'a> Tables<'a> {
         (line != 0).then_some((symbol, line))
     }
 
-    /// The source file that a symbol of class FILE names: its first auxiliary entry of that type, or itself where it has none.
-    fn source(&self, row: &SymbolRow<'a>) -> Option<&'a [u8]> {
+    /// The auxiliary entry of a symbol of class FILE that names a source file: the first of that type.
+    fn file_entry(&self, row: &SymbolRow) -> Option<&'a [u8]> {
         const NAME: u8 = 0;
         let wide = self.format == Format::Xcoff64;
-        let names =
-            |entry: &&[u8]| entry[14] == NAME && (!wide || u64::from(entry[17]) == AUX_FILE);
-        match self.auxiliaries(row).find(names) {
-            Some(entry) if number(&entry[..4]) == 0 => self.string(number(&entry[4..8])),
-            Some(entry) => Some(until_zero(&entry[..14])),
+        self.auxiliaries(row)
+            .find(|entry| entry[14] == NAME && (!wide || u64::from(entry[17]) == AUX_FILE))
+    }
+
+    /// The name in such an entry, or in the string table.
+    fn file_name(&self, entry: &'a [u8]) -> Option<&'a [u8]> {
+        match number(&entry[..4]) {
+            0 => self.string(number(&entry[4..8])),
+            _ => Some(until_zero(&entry[..14])),
+        }
+    }
+
+    /// The source file that a symbol of class FILE names: by its entry, or itself where it has none.
+    fn source(&self, row: &SymbolRow<'a>) -> Option<&'a [u8]> {
+        match self.file_entry(row) {
+            Some(entry) => self.file_name(entry),
             None if row.name() == b".file" => None,
             None => Some(row.name()),
         }

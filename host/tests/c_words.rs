@@ -131,6 +131,20 @@ fn the_words_in_c_are_those_of_the_rust_library() {
     assert_eq!(std::fs::read_to_string(&path).unwrap(), made());
 }
 
+/// Each number that has words has its constant.
+#[test]
+fn every_number_has_its_constant_in_c() {
+    let header = std::fs::read_to_string(root().join("include/xcoff_inline.h")).unwrap();
+    let known = (1..100).filter(|&n| refusal(n, 0).name() != "UNKNOWN");
+    for number in known {
+        let constant = format!("    XCOFF_REFUSED_{} = {number}", refusal(number, 0).name());
+        let found = header
+            .lines()
+            .any(|line| line.trim_end_matches(',') == constant);
+        assert!(found, "{constant}");
+    }
+}
+
 /// Compiled and run: each number with items that have words of their own and items that have not.
 #[test]
 fn what_c_prints_is_what_rust_prints() {

@@ -68,6 +68,8 @@ fn images_are_moved_once_and_not_a_second_time() {
             again,
             Err(NotMoved::NotFrom(Comparison::OtherFields(fields)))
         );
+        let words = format!("the images are for another plan than they were to be moved from: {fields} relocated fields differ");
+        assert_eq!(again.unwrap_err().to_string(), words);
         assert_eq!(
             (&b.text, &b.data),
             (&plain.0, &plain.1),

@@ -47,6 +47,8 @@ fn help_is_there_for_the_tool_and_each_command() {
         "check",
         "records",
         "images",
+        "dump",
+        "map",
     ];
     for command in commands {
         assert!(help.contains(&format!("\n  {command} ")), "{command}");

@@ -241,7 +241,7 @@ fn same_symbol(name: &str, got: &[&str], expected: &Fact) {
         "{name}: auxiliaries of {index}"
     );
     assert_eq!(hex(got[1]), hex(&expected[5]), "{name}: value of {index}");
-    assert_eq!(got[12], shown(&expected[6]), "{name}: name of {index}");
+    assert_eq!(got[14], shown(&expected[6]), "{name}: name of {index}");
 }
 
 fn same_csect(name: &str, got: &[&str], expected: Option<&Fact>) {
@@ -555,7 +555,7 @@ fn json_is_one_object_a_line() {
         Some(concat!(
             r#"{"table":"symbols","index":2,"value":"ffffffff","section":-2,"type":"0000","#,
             r#""visibility":null,"class":103,"aux":1,"csect":null,"align":null,"mapping":null,"#,
-            r#""length":null,"within":null,"name":".file"}"#
+            r#""length":null,"within":null,"in":null,"source":"imports.s","name":".file"}"#
         ))
     );
     folder.copy("clang-vis-32.o");
@@ -565,7 +565,7 @@ fn json_is_one_object_a_line() {
         Some(concat!(
             r#"{"table":"symbols","index":11,"value":"00000050","section":2,"type":"3000","#,
             r#""visibility":3,"class":2,"aux":1,"csect":"SD","align":2,"mapping":5,"#,
-            r#""length":4,"within":null,"name":"prot"}"#
+            r#""length":4,"within":null,"in":".data","source":null,"name":"prot"}"#
         ))
     );
     for command in ["headers", "module", "relocations"] {
@@ -636,7 +636,7 @@ fn a_long_name_is_cut_with_a_mark() {
     for (length, end) in [(300, "a\\..."), (257, "a\\..."), (256, "a")] {
         folder.write("long", &symbols([4].into_iter(), &vec![b'a'; length]));
         let out = folder.done(&["symbols", "long"]);
-        let name = rows(&out, "index")[0][12];
+        let name = rows(&out, "index")[0][14];
         assert_eq!(name, format!("{}{end}", "a".repeat(255)), "{length}");
         let json = folder.done(&["symbols", "long", "--json"]);
         assert_eq!(json.ends_with("\"name_cut\":true}\n"), length > 256);

@@ -266,6 +266,7 @@ fn a_key_has_one_type_in_all_tables() {
             "--json",
         ]);
     }
+    look(&["map", M, "s", "--json"]);
     look(&["sheet", "s", "--json"]);
     look(&["sheet", "s", M, "--json"]);
     look(&["build", M, "s", "-o", "t2", "d2", "--json"]);

@@ -19,6 +19,8 @@ pub enum Cell<'a> {
     Path(&'a Path),
     /// "yes" or "no" for people.
     Flag(bool),
+    /// Seconds since 1970, for people a date.
+    Time(u64),
     Nothing,
 }
 
@@ -199,6 +201,7 @@ fn push_text(out: &mut String, column: &Column, cell: &Cell) {
         Cell::Name(bytes) => escape::push_name(bytes, out),
         Cell::Path(path) => out.push_str(&escape::argument(path)),
         Cell::Flag(yes) => out.push_str(if *yes { "yes" } else { "no" }),
+        Cell::Time(seconds) => push_time(out, *seconds),
         Cell::Nothing => out.push('-'),
     }
 }
@@ -216,6 +219,7 @@ fn push_json(out: &mut String, column: &Column, cell: &Cell) {
         Cell::Name(bytes) => push_json_name(out, column, bytes),
         Cell::Path(path) => push_json_text(out, &escape::argument(path)),
         Cell::Flag(yes) => push(out, format_args!("{yes}")),
+        Cell::Time(seconds) => push(out, format_args!("{seconds}")),
         Cell::Nothing => out.push_str("null"),
     }
 }
@@ -242,6 +246,36 @@ fn push_json_name(out: &mut String, column: &Column, bytes: &[u8]) {
     if bytes.len() > escape::MOST {
         push(out, format_args!(",\"{}_cut\":true", column.name));
     }
+}
+
+/// In UTC; of 0, which stands for no time, a dash.
+fn push_time(out: &mut String, seconds: u64) {
+    if seconds == 0 {
+        out.push('-');
+        return;
+    }
+    let (days, rest) = (seconds / 86_400, seconds % 86_400);
+    let (year, month, day) = date(days);
+    let (hour, minute, second) = (rest / 3600, rest / 60 % 60, rest % 60);
+    push(
+        out,
+        format_args!("{year:04}-{month:02}-{day:02}T{hour:02}:{minute:02}:{second:02}Z"),
+    );
+}
+
+/// Of so many days since 1970-01-01: years count from March, so that a leap day is the last one.
+fn date(days: u64) -> (u64, u64, u64) {
+    let from_0 = days + 719_468;
+    let (era, day) = (from_0 / 146_097, from_0 % 146_097);
+    let year = (day - day / 1460 + day / 36_524 - day / 146_096) / 365;
+    let day = day - (365 * year + year / 4 - year / 100);
+    let month = (5 * day + 2) / 153;
+    let day = day - (153 * month + 2) / 5 + 1;
+    let (year, month) = match month < 10 {
+        true => (era * 400 + year, month + 3),
+        false => (era * 400 + year + 1, month - 9),
+    };
+    (year, month, day)
 }
 
 /// A text of ours as a JSON string.

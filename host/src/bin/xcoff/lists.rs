@@ -1,18 +1,17 @@
 //! The commands that list what a file holds.
 
 use crate::args::Arguments;
-use crate::escape;
 use crate::files;
 use crate::follows::Selected;
 use crate::listing::{hex, names, number, word, Cell, Column, Listing};
 use crate::output::{print, refused_in};
 use crate::problem::Problem;
-use crate::words::{class_word, kind_word, mapping_word, section_word, visibility_word};
+use crate::words::{kind_word, mapping_word};
 use std::io::{self, Write};
 use std::path::Path;
 use xcoff::{
-    Anchor, Csect, CsectType, Format, Image, LoaderRow, Module, Opened, Part, Relocation, Section,
-    SymbolRow, SymbolTable,
+    Anchor, FieldValue, Format, HeaderFields, Image, LoaderRow, Module, Opened, Part, Relocation,
+    Section,
 };
 
 pub type Lister = fn(&Arguments, &Path) -> Result<(), Problem>;
@@ -53,10 +52,6 @@ pub fn headers(args: &Arguments) -> Result<(), Problem> {
     each(args, headers_of)
 }
 
-pub fn symbols(args: &Arguments) -> Result<(), Problem> {
-    each(args, symbols_of)
-}
-
 pub fn module(args: &Arguments) -> Result<(), Problem> {
     each(args, module_of)
 }
@@ -82,22 +77,40 @@ fn headers_of(args: &Arguments, path: &Path) -> Result<(), Problem> {
     }
     print(|out| {
         let mut list = open(args, out, path);
-        file_row(&mut list, &opened)?;
+        let fields = xcoff::header_fields(&file).expect("it is an XCOFF file");
+        file_row(&mut list, &opened, &fields)?;
         list.table("sections", section_columns(&opened, &sections))?;
         for (n, (section, name)) in sections.iter().enumerate() {
             section_row(&mut list, n as u64 + 1, section, name)?;
         }
-        Ok(())
+        auxiliary_rows(&mut list, &fields.auxiliary)
     })
 }
 
-fn file_row(list: &mut Listing, opened: &Opened) -> io::Result<()> {
+/// The fields of the auxiliary header, as the file has them.
+fn auxiliary_rows(list: &mut Listing, fields: &[FieldValue]) -> io::Result<()> {
+    if fields.is_empty() {
+        return Ok(());
+    }
+    let columns = vec![word("field", 12), number("offset", 255), word("value", 0)];
+    list.table("auxiliary", columns)?;
+    fields.iter().try_for_each(|field| {
+        list.row(&[
+            Cell::Word(field.name),
+            Cell::Number(field.offset),
+            Cell::Name(field.value.to_string().as_bytes()),
+        ])
+    })
+}
+
+fn file_row(list: &mut Listing, opened: &Opened, fields: &HeaderFields) -> io::Result<()> {
     let columns = vec![
         word("format", 7),
         number("sections", opened.sections),
         number("symbols", opened.symbols),
         number("auxiliary", opened.opthdr),
         hex("flags", 4),
+        word("time", 0),
     ];
     list.table("file", columns)?;
     list.row(&[
@@ -106,6 +119,7 @@ fn file_row(list: &mut Listing, opened: &Opened) -> io::Result<()> {
         Cell::Number(opened.symbols),
         Cell::Number(opened.opthdr),
         Cell::Hex(opened.flags),
+        Cell::Time(fields.value("f_timdat").unwrap_or(0)),
     ])
 }
 
@@ -142,81 +156,6 @@ fn section_row(list: &mut Listing, n: u64, section: &Section, name: &[u8]) -> io
         Cell::Number(section.nlnno),
         Cell::Name(name),
     ])
-}
-
-/// Lists what the walk reads; where it ends early, the refusal follows the list.
-fn symbols_of(args: &Arguments, path: &Path) -> Result<(), Problem> {
-    let file = files::read(path, files::FILE)?;
-    let opened = refused_in(path, &file, xcoff::open(&file))?;
-    let table = refused_in(path, &file, xcoff::symbol_table(&file))?;
-    print(|out| {
-        let mut list = open(args, out, path);
-        list.table("symbols", symbol_columns(opened.format, &table))?;
-        table.rows().try_for_each(|row| symbol_row(&mut list, &row))
-    })?;
-    match table.walk.cause {
-        Some(refusal) => refused_in(path, &file, Err(refusal)),
-        None => Ok(()),
-    }
-}
-
-fn symbol_columns(format: Format, table: &SymbolTable) -> Vec<Column> {
-    let length = |row: SymbolRow| row.csect.map_or(0, |c| c.length);
-    vec![
-        number("index", table.walk.end),
-        hex("value", digits(format)),
-        number("section", 32),
-        hex("type", 4),
-        word("visibility", 9),
-        word("class", 7),
-        number("aux", 255),
-        word("csect", 3),
-        number("align", 31),
-        word("mapping", 6),
-        number("length", table.rows().map(length).max().unwrap_or(0)),
-        number("within", table.walk.end),
-        word("name", 0),
-    ]
-}
-
-fn symbol_row(list: &mut Listing, row: &SymbolRow) -> io::Result<()> {
-    let s = &row.symbol;
-    let csect = row.csect.as_ref();
-    let holds = |wanted: bool| move |c: &&Csect| (c.kind == CsectType::Ld) == wanted;
-    let length = |c: &Csect| Cell::Number(c.length);
-    list.row(&[
-        Cell::Number(row.index),
-        Cell::Hex(s.value),
-        Cell::Named(s.scnum, section_word(s.scnum)),
-        Cell::Hex(s.ntype),
-        s.visibility.map_or(Cell::Nothing, |v| {
-            Cell::Named(v as i64, Some(visibility_word(v)))
-        }),
-        Cell::Named(s.sclass as i64, class_word(s.sclass)),
-        Cell::Number(s.numaux),
-        csect_cell(row),
-        csect.map_or(Cell::Nothing, |c| Cell::Number(c.align)),
-        csect.map_or(Cell::Nothing, |c| {
-            Cell::Named(c.smclas as i64, mapping_word(c.smclas))
-        }),
-        csect.filter(holds(false)).map_or(Cell::Nothing, length),
-        csect.filter(holds(true)).map_or(Cell::Nothing, length),
-        Cell::Name(row.name_up_to(escape::MOST + 1)),
-    ])
-}
-
-/// The csect's type; "bad" where the class carries a csect entry and there is no valid one.
-fn csect_cell(row: &SymbolRow) -> Cell<'static> {
-    match &row.csect {
-        Some(c) => Cell::Word(match c.kind {
-            CsectType::Er => "ER",
-            CsectType::Sd => "SD",
-            CsectType::Ld => "LD",
-            CsectType::Cm => "CM",
-        }),
-        None if matches!(row.symbol.sclass, 2 | 107 | 111) => Cell::Word("bad"),
-        None => Cell::Nothing,
-    }
 }
 
 fn module_of(args: &Arguments, path: &Path) -> Result<(), Problem> {

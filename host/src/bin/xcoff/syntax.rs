@@ -2,7 +2,9 @@
 
 use crate::args::Arguments;
 use crate::problem::Problem;
-use crate::{check, images, line, lined, lists, plans, records, rewrite, salvage};
+use crate::{
+    check, dump, images, line, lined, lists, map, plans, records, rewrite, salvage, symbols,
+};
 
 pub struct Command {
     pub name: &'static str,
@@ -73,19 +75,27 @@ const fn lister(
     }
 }
 
-pub static COMMANDS: [Command; 16] = [
+pub static COMMANDS: [Command; 18] = [
     lister(
         "headers",
         "the file header and the sections",
         HEADERS,
         lists::headers,
     ),
-    lister(
-        "symbols",
-        "the symbol table, with csects",
-        SYMBOLS,
-        lists::symbols,
-    ),
+    Command {
+        usage: "FILE... [--name PATTERN] [--sort value|name|index] [--json]",
+        options: &[
+            flag("--name", &["PATTERN"]),
+            flag("--sort", &["value|name|index"]),
+            flag("--json", &[]),
+        ],
+        ..lister(
+            "symbols",
+            "the symbol table, with csects",
+            SYMBOLS,
+            symbols::symbols,
+        )
+    },
     lister(
         "module",
         "a loadable module and its loader symbols",
@@ -242,6 +252,31 @@ pub static COMMANDS: [Command; 16] = [
         run: records::images,
     },
     Command {
+        name: "dump",
+        usage: "FILE SHEET [TEXT DATA]",
+        operands: &["FILE", "SHEET"],
+        optional: 2,
+        options: &[NO_WAIT],
+        summary: "prints images in hexadecimal, with the card's addresses",
+        help: DUMP,
+        run: dump::dump,
+    },
+    Command {
+        name: "map",
+        usage: "FILE SHEET [--svg PICTURE [--force] [--no-wait]] [--json]",
+        operands: &["FILE", "SHEET"],
+        optional: 0,
+        options: &[
+            flag("--svg", &["PICTURE"]),
+            FORCE,
+            NO_WAIT,
+            flag("--json", &[]),
+        ],
+        summary: "draws where everything lies on the card",
+        help: MAP,
+        run: map::map,
+    },
+    Command {
         name: "rewrite",
         usage: "FILE SHEET -o FILE2 [--force] [--no-wait]",
         operands: &["FILE", "SHEET"],
@@ -349,12 +384,13 @@ name. With --json each row is one object, and so is a refusal, after the rows.
 
 const HEADERS: &str = "\
 Lists the file header (its sections, the entries of its symbol table, the bytes
-of its auxiliary header, its flags) and every section header: the section's
-number, its kind, its physical and virtual address, its size in bytes, where its
-raw data lies in the file and whether there is any, where its relocation table
-and its line number table lie and how many entries each has ('relptr', 'nreloc',
-'lnnoptr', 'nlnno'), and its name. The counts are those of the header: 65535 of an
-XCOFF32 file may stand for the count in an overflow header ('ovrflo').
+of its auxiliary header, its flags and when it was made, '-' where it does not say)
+and every section header: the section's number, its kind, its physical and virtual
+address, its size in bytes, where its raw data lies in the file and whether there is
+any, where its relocation table and its line number table lie and how many entries
+each has ('relptr', 'nreloc', 'lnnoptr', 'nlnno'), and its name; then the fields of
+the auxiliary header, as far as there are any. The counts are those of the header:
+65535 of an XCOFF32 file may stand for the count in an overflow header ('ovrflo').
 
   xcoff headers diag.xcoff
 
@@ -368,12 +404,17 @@ the log 2 of its alignment, its mapping class, its length in bytes, or of a labe
 the index of the csect it lies within. 'bad' is a csect that is refused
 (12 CSECT). In an XCOFF32 file of auxiliary version 2 the type of such a symbol
 has a visibility: none, internal, hidden, protected or exported; '-' where no
-visibility is claimed. Where an entry is refused, those before it are listed and
-the refusal follows, with exit status 1.
+visibility is claimed. 'in' is the name of the symbol's section, 'source' that of the
+source file that a symbol of class FILE tells of. Where an entry is refused, those
+before it are listed and the refusal follows, with exit status 1.
 
   xcoff symbols diag.xcoff
+  xcoff symbols diag.xcoff --name '.get*' --sort value
 
---json  one object a line; 'visibility' is a number, 0 to 4, or null
+--name PATTERN  only symbols whose name, as it is shown, is as the pattern says: *
+                stands for any characters, ? for one
+--sort ORDER    by value, by name, or by index, which is the table's own order
+--json          one object a line; 'visibility' is a number, 0 to 4, or null
 ";
 
 const MODULE: &str = "\
@@ -586,6 +627,33 @@ exits with 1.
 --force         replaces an XCOFF file or a sheet too
 --no-wait       ends, with status 3, where another xcoff writes in the folder
 --json          prints one object a line
+";
+
+const DUMP: &str = "\
+Prints the text and data images of a module for a plan sheet in hexadecimal, 16
+bytes a line with the address that they have on the card. Lines that are like the
+one before are left out, and a * stands for them. With TEXT and DATA these files are
+printed, whatever they hold; their lengths must be the images'.
+
+  xcoff dump diag.xcoff card7.sheet
+  xcoff dump diag.xcoff card7.sheet card7.text card7.data
+
+--no-wait  ends, with status 3, where another xcoff writes in the folder
+";
+
+const MAP: &str = "\
+Says where everything of a module lies on the card that a plan sheet is for: text,
+data, the zeros up to bss, bss, the entry and the TOC, and the imports, each with how
+many relocated fields it has or follow it; then draws both images, a character for
+some bytes, with the fields by what they follow.
+
+  xcoff map diag.xcoff card7.sheet
+  xcoff map diag.xcoff card7.sheet --svg card7.svg
+
+--svg PICTURE  writes the drawing as a picture (SVG) instead, to hang beside the card
+--force        replaces an XCOFF file or a sheet too
+--no-wait      ends, with status 3, where another xcoff writes in the folder
+--json         one object a line, without the drawing
 ";
 
 const REWRITE: &str = "\
