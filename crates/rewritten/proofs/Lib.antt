@@ -12,6 +12,8 @@ pub mod Loaded
 pub mod Rebases
 pub mod Outside
 pub mod Theorem
+pub mod Covers
 pub mod Reports
+pub mod Own
 pub mod Operation
 pub mod Named

@@ -192,12 +192,12 @@ pub record Writable (file : List ℕ) (l : Loadable) (p : Plan) : Type 0 where
   pub plan : planCheck (relocatableAt file) p ≡ Accepted
   pub apart : isShared file (openOf file .summary) l ≡ false
 
-relocatable-is : (file : List ℕ) (l : Loadable) → loadableAt file ≡ answer.Found l → relocatableAt file ≡ relocatableOf file l
+pub relocatable-is : (file : List ℕ) (l : Loadable) → loadableAt file ≡ answer.Found l → relocatableAt file ≡ relocatableOf file l
 unfolding relocatableAt relocatableBy
 relocatable-is file l e = rw e refl
 
 -- each import has its own place in the list
-own-places : (file : List ℕ) (l : Loadable) → OwnPlaces (relocatableOf file l)
+pub own-places : (file : List ℕ) (l : Loadable) → OwnPlaces (relocatableOf file l)
 unfolding relocatableOf
 own-places file l j = by-place (decLt j (l .tables .nsyms))
   where
