@@ -11,8 +11,9 @@ pub mod Loads
 pub mod Loaded
 pub mod Rebases
 pub mod Outside
-pub mod Theorem
 pub mod Covers
+pub mod Again
+pub mod Theorem
 pub mod Reports
 pub mod Own
 pub mod Operation

@@ -111,7 +111,7 @@ module _ (new : Followed → ℕ → ℕ) (x : Images) (file : List ℕ) (f : Fo
   unfolding putAux
   put-is = refl
 
-  aux-at : auxAt F (headerLayout F .length) (W new x file f l g) ≡ movedAux new fe ft (auxAt F (headerLayout F .length) file)
+  pub aux-at : auxAt F (headerLayout F .length) (W new x file f l g) ≡ movedAux new fe ft (auxAt F (headerLayout F .length) file)
   aux-at =
       let base = headerLayout F .length in
       let before = aux-before new x file y l (g .apart) (g .loaderApart) (g .within) (g .format) (g .long) (g .textLength) (g .dataLength) in

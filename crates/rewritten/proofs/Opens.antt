@@ -210,7 +210,7 @@ module _ (new : Followed → ℕ → ℕ) (x : Images) (file : List ℕ) (f : Fo
     length-before : length (w3 new x file y l) ≡ length file
     length-before = length3 new x file y l (g .apart) (g .loaderApart) (g .within) (g .format) (g .long) (g .textLength) (g .dataLength)
 
-    header-moved : sectionHeaderAt f base W ≡ movedHeader new (flagFollows (flagAt (y .sections) i)) (sectionHeaderAt f base file)
+    pub header-moved : sectionHeaderAt f base W ≡ movedHeader new (flagFollows (flagAt (y .sections) i)) (sectionHeaderAt f base file)
     header-moved =
         section-same f base read-now
         ∙ ap (sectionHeaderAt f base) put-is

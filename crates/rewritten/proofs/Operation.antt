@@ -16,6 +16,7 @@ use Rattle.loadable.specs.declared.Loadable.{Loadable}
 use Rattle.loadable.specs.declared.LoadableAnswer.{LoadableAnswer}
 use Rattle.loadable.specs.declared.LoadableAnswer.the-variants as answer
 use Rattle.loadable.specs.Loadable.{loadableAt}
+use Rattle.update.specs.Update.{Bytes}
 use Rattle.history.specs.Images.{Images}
 use Rattle.history.specs.Plan.{Relocatable, Plan, SamePlan, planCheck}
 use Rattle.history.specs.Call.{Call, answerOf, run}
@@ -27,11 +28,16 @@ use Rattle.written.specs.Shared.{isShared}
 use Rattle.written.specs.Write.{sharedCheck, outputRoom, rewriteCheck, writtenBy, writtenAt}
 use Rattle.written.specs.Changed.{Changed}
 use Rattle.rewritten.proofs.Reports.{reports-alike}
-use Rattle.rewritten.proofs.Theorem.{Writable, written-opens-again, written-runs, written-answers, written-recorded, written-length, written-byte}
+use Rattle.rewritten.proofs.Theorem.{Writable, written-opens-again, written-runs, written-answers, written-recorded, written-length, written-byte, written-again, relocatable-is}
+use Rattle.rewritten.proofs.Own.{written-own}
 
 first-accepted : (m : Relocatable) (p : Plan) → planCheck m p ≡ Accepted → m .verdict ≡ Accepted
 unfolding planCheck
 first-accepted m p e = accepted-first (m .verdict) _ e
+
+as-found : (file : List ℕ) (p : Plan) {l : Loadable} → loadableAt file ≡ answer.Found l → writtenAt file p ≡ written file l p
+unfolding writtenAt
+as-found file p q = rw q refl
 
 -- the module of a file that is accepted
 pub record Rewritten (file : List ℕ) (p : Plan) : Type 0 where
@@ -96,3 +102,18 @@ module _ (file : List ℕ) (p : Plan) (n : ℕ) (e : rewriteCheck file p n ≡ A
 
   pub rewritten-byte : (k : ℕ) → (Changed file (openOf file .summary) (r .layout) k → ⊥) → getD (writtenAt file p) k 0 ≡ getD file k 0
   rewritten-byte k h = rw (r .is) (written-byte file (r .layout) p (r .writable) k h)
+
+  -- a module written for p and then for q is the one written for q
+  pub rewritten-again : (q : Plan) → writtenAt (writtenAt file p) q ≡ writtenAt file q
+  rewritten-again q =
+      let l = r .layout in
+      ap (λ (ws : List ℕ). writtenAt ws q) (r .is) ∙ as-found (written file l p) q (written-opens-again file l p (r .writable)) ∙ written-again file l p (r .writable) q ∙ sym (as-found file q (r .writable .loads))
+
+-- a module written for its own recorded plan is the file itself, byte for byte; the elements of a file are bytes
+pub rewritten-own : (file : List ℕ) → Bytes file → writtenAt file (recordedPlan (relocatableAt file)) ≡ file
+rewritten-own file b = by-answer′ (loadableAt file) refl
+  where
+    by-answer′ : (a : LoadableAnswer) → loadableAt file ≡ a → writtenAt file (recordedPlan (relocatableAt file)) ≡ file
+    by-answer′ (answer.Found l) q =
+        ap (λ (m : Relocatable). writtenAt file (recordedPlan m)) (relocatable-is file l q) ∙ as-found file (recordedPlan (relocatableOf file l)) q ∙ written-own file l q b
+    by-answer′ (answer.Refused x) q = unfold writtenAt in rw q refl

@@ -92,7 +92,7 @@ module _ (file : List ℕ) (f : Format) (l : Loadable) (q : Plan) (fit : PlanFit
   l′ = record { layout = movedModule new (l .layout); tables = l .tables }
 
   -- each loader symbol
-  followed-kept : (k : ℕ) → k < l .tables .nsyms → followedAt ws l′ k ≡ rebasedSymbol q (followedAt file l k)
+  pub followed-kept : (k : ℕ) → k < l .tables .nsyms → followedAt ws l′ k ≡ rebasedSymbol q (followedAt file l k)
   unfolding followedIn
   followed-kept k b =
       let text = l .layout .parts .text .number in

@@ -34,7 +34,7 @@ use Rattle.loadable.proofs.Accepted.{loadable-valid}
 use Rattle.history.specs.declared.Followed.{Followed}
 use Rattle.history.specs.declared.Followed.the-variants as followed
 use Rattle.history.specs.Images.{Images}
-use Rattle.history.specs.Plan.{Relocatable, Plan, Anchored, limitOf, SamePlan, planCheck, addressCheck, importCheck, builtImages}
+use Rattle.history.specs.Plan.{Relocatable, Plan, Anchored, Sound, limitOf, SamePlan, planCheck, addressCheck, importCheck, builtImages}
 use Rattle.history.specs.Plan.Anchored.{none, inText, inData}
 use Rattle.history.specs.Call.{Call, run, answerOf}
 use Rattle.written.specs.Written.{anchorBy, anchorFollows}
@@ -64,6 +64,7 @@ use Rattle.rewritten.proofs.Loads.{module-parts}
 use Rattle.rewritten.proofs.Loaded.{written-loadable}
 use Rattle.written.proofs.Built.{length-built, length-built-text}
 use Rattle.rewritten.proofs.Rebases.{relocatable-kept}
+use Rattle.rewritten.proofs.Again.{again}
 
 -- ---- what the checks of a module tell
 
@@ -285,3 +286,33 @@ module _ (file : List ℕ) (l : Loadable) (p : Plan) (c : Writable file l p) whe
   written-byte k h =
       let v = loadable-valid file l (c .loads) in
       byte-kept N (builtImages (relocatableOf file l) p) file (openOf file .summary) l (length-built-text file l v p) (data-long file l v p) k h
+
+  -- written for p and then for q, it is the file written for q
+  pub written-again : (q : Plan) → written (written file l p) (record { layout = movedModule (newAddress (relocatableOf file l) p) (l .layout); tables = l .tables }) q ≡ written file l q
+  written-again q =
+      let o = opened-reads file (module-found file (l .layout) (loadable-found file l (c .loads) .sections) .opened) in
+      by-format (o .0) (o .1)
+    where
+      l′ : Loadable
+      l′ = record { layout = movedModule N (l .layout); tables = l .tables }
+
+      sound : Sound (relocatableOf file l)
+      sound = subst Sound (relocatable-is file l (c .loads)) (relocatable-sound file)
+
+      for-q : (f : Format) → openOf file .summary ≡ summaryAs f file
+          → writtenBy (newAddress (relocatableOf file l) q) (builtImages (relocatableOf file l) q) file (summaryAs f file) l file ≡ written file l q
+      for-q f e = unfold written in
+          ap (λ (y : Summary). writtenBy (newAddress (relocatableOf file l) q) (builtImages (relocatableOf file l) q) file y l file) (sym e)
+
+      by-format : (f : Format) → Reads f file → written (written file l p) l′ q ≡ written file l q
+      by-format f r =
+          let lf = loadable-found file l (c .loads) in
+          let v = loadable-valid file l (c .loads) in
+          let mf = module-found file (l .layout) (lf .sections) in
+          let e : openOf file .summary ≡ summaryAs f file = ap (λ (o : Opened). o .summary) (reads-opened f file r) in
+          let check = rw e at (mf .check) in
+          let is = rw e at (mf .is) in
+          let apart = rw e at (c .apart) in
+          let g = ready file l p f r lf v check is fitting apart in
+          let fs = fresh-symbols file l p f r lf v check is fitting apart in
+          ap (λ (ws : List ℕ). written ws l′ q) (written-is f e) ∙ again file f l p q fitting g lf v fs sound ∙ for-q f e
