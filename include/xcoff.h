@@ -415,6 +415,21 @@ xcoff_verdict xcoff_read_records(const uint8_t *file, size_t length, uint64_t te
                                  uint8_t *text, size_t text_length, uint8_t *data, size_t data_length);
 
 /*
+ * Writes the module back as a file for a plan, into an output of exactly the file's length: raw text and data as
+ * xcoff_build builds them; the new addresses of text, data and bss in the section headers and in the auxiliary header,
+ * which has none of bss; entry and TOC moved, unless their section is 0; in the loader section the values of defined
+ * symbols and the relocation addresses moved with their sections, and the values of imports whose ifile is not 0 set to the
+ * plan's. Every other byte is the file's. So the output is a module whose recorded addresses are the plan's, and building
+ * or moving its images gives what it gives of the file.
+ *
+ * A refusal leaves the output as it was. The order of refusals: the module's; ROOM 2; PLAN; SHARED where two of these share
+ * a byte: header area, raw text, raw data, loader section, symbol table, string table (its four length bytes also where
+ * they are 0), or inside the loader section its header, symbols, relocations, ids, strings; ROOM 0 for the output.
+ */
+xcoff_verdict xcoff_write_module(const uint8_t *file, size_t length, uint64_t text_address, uint64_t data_address,
+                                 const uint64_t *list, size_t places, uint8_t *output, size_t output_length);
+
+/*
  * Tables: one call lists all elements, a row of numbers for each, and judges the file once. `numbers` is how many 64-bit
  * numbers `rows` has room for, and must be exactly the rows' own: ROOM (20), item 0, is the last refusal. The counts are
  * those of xcoff_walk (visited) and xcoff_module (symbols, relocations, ids). A refusal leaves `rows` as it was; an

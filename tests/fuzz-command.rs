@@ -204,6 +204,7 @@ impl Commands {
         assert_eq!(self.run("map m s --json"), 0);
         assert_eq!(self.run("map m s --svg picture --force"), 0);
         self.records();
+        self.rewrite(input);
         assert!(self.run("plan m --import @3=ffffffff --text 0 --recorded -o s2") <= 2);
         let shift = if hash & 1 == 0 { 36 } else { hash >> 1 & 31 };
         let planned = self.run(&format!(
@@ -215,6 +216,12 @@ impl Commands {
         if planned == 1 {
             return;
         }
+        if self.run("rewrite m s2 -o m2 --force") == 0 {
+            assert_eq!(self.run("rewrite m2 s -o m3 --force"), 0);
+            assert_eq!(fs::read("m3").unwrap(), input);
+            assert_eq!(self.run("build m2 s -o t2 d2 --force"), 0);
+            assert_eq!(self.run("check m s t2 d2"), 0);
+        }
         assert_eq!(self.run("move m s s2 t d -o t2 d2 --force"), 0);
         assert_eq!(self.run("check m s t d"), 0);
         assert_eq!(self.run("check m s2 t2 d2"), 0);
@@ -225,6 +232,16 @@ impl Commands {
         assert_eq!(self.run("check m s2 t d"), 0);
         assert_eq!(self.run("move m s2 s t d --force"), 0);
         assert_eq!(self.run("check m s t d"), 0);
+    }
+
+    /// For its own plan it is the file itself, unless its parts share bytes.
+    fn rewrite(&self, input: &[u8]) {
+        let written = self.run("rewrite m s -o m2 --force");
+        assert_eq!(written == 0, xcoff::shared_in_module(input).is_empty());
+        if written == 0 {
+            assert_eq!(fs::read("m2").unwrap(), input);
+            assert_eq!(self.run("check m2 s t d"), 0);
+        }
     }
 
     /// Its images as records and back; an XCOFF64 module or one whose images overlap has none.

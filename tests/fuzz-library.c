@@ -93,12 +93,13 @@ static void *lend(area a, size_t n)
     return at_the_end ? a.start + ROOM - n : a.start;
 }
 
-static area file_area, text_area, data_area, text2_area, data2_area, list_area, list2_area, rows_area, sheet_area, script_area, records_area, copy_area, report_area, table_area;
+static area file_area, text_area, data_area, text2_area, data2_area, list_area, list2_area, rows_area, sheet_area, script_area, records_area, copy_area, report_area, table_area, output_area, output2_area;
 
 static void map_all(void)
 {
     area *all[] = {&file_area, &text_area, &data_area, &text2_area, &data2_area, &list_area, &list2_area, &rows_area,
-                   &sheet_area, &script_area, &records_area, &copy_area, &report_area, &table_area};
+                   &sheet_area, &script_area, &records_area, &copy_area, &report_area, &table_area, &output_area,
+                   &output2_area};
     size_t i;
     for (i = 0; i < sizeof all / sizeof all[0]; i++)
         *all[i] = map();
@@ -1171,6 +1172,93 @@ static void input_as_calls(xcoff_module_answer m)
     note(data, dl);
 }
 
+/* ---- modules written as files */
+
+static xcoff_verdict write_module(const uint8_t *from, plan p, uint8_t *output, size_t n)
+{
+    return xcoff_write_module(from, length, p.text, p.data, p.list, p.places, output, n);
+}
+
+/* The written file for another plan: built for a third it gives what the file gives, and back it is the file. */
+static void rebuilt(xcoff_module_answer m, plan recorded, plan other, const uint8_t *output)
+{
+    size_t tl = m.text.size, dl = m.image;
+    uint8_t *text = lend(text_area, tl), *data = lend(data_area, dl), *text2 = lend(text2_area, tl), *data2 = lend(data2_area, dl);
+    uint8_t *back = lend(output2_area, length);
+    xcoff_call_answer a, b;
+    xcoff_verdict v;
+    plan third = other;
+    third.text = any_number();
+    third.data = any_number();
+    fill(text, tl);
+    fill(data, dl);
+    fill(text2, tl);
+    fill(data2, dl);
+    a = build(third, text, tl, data, dl);
+    b = xcoff_build(output, length, third.text, third.data, third.list, third.places, text2, tl, data2, dl);
+    PROMISE(SAME(a, b) && memcmp(text, text2, tl) == 0 && memcmp(data, data2, dl) == 0);
+    a = build(other, text, tl, data, dl);
+    PROMISE(a.number == 0);
+    {
+        xcoff_section_answer s = xcoff_section(output, length, m.text.number);
+        PROMISE(s.paddr == other.text && s.vaddr == other.text && (tl == 0 || memcmp(text, output + s.scnptr, tl) == 0));
+        s = xcoff_section(output, length, m.data.number);
+        PROMISE(s.paddr == other.data && (m.data.size == 0 || memcmp(data, output + s.scnptr, m.data.size) == 0));
+    }
+    fill(back, length);
+    v = write_module(output, recorded, back, length);
+    PROMISE(v.number == 0 && memcmp(back, file, length) == 0);
+}
+
+/* For the recorded plan it is the file itself; for another its addresses are that one's. */
+static void written(xcoff_module_answer m)
+{
+    size_t places = m.number == 0 ? m.symbols : 0, i;
+    uint8_t *output = lend(output_area, length + 1);
+    plan recorded = {m.text.address, m.data.address, NULL, 0}, other;
+    xcoff_verdict v;
+    xcoff_module_answer n;
+    step = "a module written";
+    recorded.places = places;
+    recorded.list = lend(list_area, 8 * places);
+    fill(output, length + 1);
+    if (m.number == 0) {
+        const xcoff_loader_symbol_row *rows = (const void *)table(m, xcoff_loader_symbol_table, 9 * places);
+        for (i = 0; i < places; i++)
+            recorded.list[i] = rows[i].value;
+    }
+    v = write_module(file, recorded, output, length + 1);
+    ANSWER(v);
+    PROMISE(m.number != 0 ? REFUSED_AS(v, m) : REFUSED(v, 29, 0, 0) || REFUSED(v, 20, 0, 0));
+    untouched(output, length + 1);
+    if (v.number != 20 || m.number != 0)
+        return;
+    output = lend(output_area, length);
+    v = write_module(file, recorded, output, length);
+    PROMISE(v.number == 0 && memcmp(output, file, length) == 0);
+    if (m.image >= HEAVY)
+        return;
+    other = recorded;
+    other.list = lend(list2_area, 8 * places);
+    for (i = 0; i < places; i++)
+        other.list[i] = random_number() & (m.bits == 32 ? UINT32_MAX : UINT64_MAX);
+    other.text = any_number();
+    other.data = any_number();
+    fill(output, length);
+    v = write_module(file, other, output, length);
+    ANSWER(v);
+    if (v.number != 0) {
+        PROMISE(v.number == 19);
+        untouched(output, length);
+        return;
+    }
+    note(output, length);
+    n = xcoff_module(output, length);
+    PROMISE(n.number == 0 && n.text.address == other.text && n.data.address == other.data);
+    PROMISE(n.image == m.image && n.symbols == m.symbols && n.relocations == m.relocations && n.ids == m.ids);
+    rebuilt(m, recorded, other, output);
+}
+
 /* ---- salvage */
 
 /* A field that a change may set: its place in the file, its length, and which bits of its first byte. */
@@ -1279,6 +1367,7 @@ static void nothing(void)
     PROMISE(REFUSED(o, 1, 0, 0) && REFUSED(t, 1, 0, 0) && REFUSED(v, 1, 0, 0));
     PROMISE(REFUSED(l, 1, 0, 0) && REFUSED(w, 1, 0, 0) && REFUSED(r, 1, 0, 0));
     PROMISE(REFUSED(f, 1, 0, 0) && REFUSED(b, 1, 0, 0));
+    PROMISE(xcoff_write_module(NULL, 0, 0, 0, NULL, 0, NULL, 0).number == 1);
     PROMISE(xcoff_salvage(NULL, 0, NULL, 0, NULL, 0).number == 1);
 }
 
@@ -1305,6 +1394,7 @@ static uint64_t run(const uint8_t *input, size_t n)
         tables(m);
         images(m);
         records(m);
+        written(m);
         salvage(o);
         sheets();
         if (m.image < HEAVY)

@@ -11,6 +11,7 @@ mod object_rows;
 mod processes;
 mod reference_rows;
 mod report;
+mod rewrite_rows;
 mod salvage_rows;
 
 use report::Report;
@@ -55,6 +56,7 @@ pub fn main(object: Option<Object>) {
     }
     growth::rows(&mut report);
     salvage_rows::rows(&mut report);
+    rewrite_rows::rows(&mut report);
 }
 
 fn options() -> Option<Options> {

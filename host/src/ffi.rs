@@ -321,6 +321,16 @@ extern "C" {
     ) -> Head;
     fn xcoff_table_count(table: *const Table, bench: u64) -> Count;
     fn xcoff_table_rows(table: *const Table, bench: u64, rows: *mut u64, numbers: usize) -> Head;
+    fn xcoff_write_module(
+        file: *const u8,
+        length: usize,
+        text_address: u64,
+        data_address: u64,
+        list: *const u64,
+        places: usize,
+        output: *mut u8,
+        output_length: usize,
+    ) -> Head;
     fn xcoff_salvage_count(file: *const u8, length: usize) -> Count;
     fn xcoff_salvage(
         file: *const u8,
@@ -592,6 +602,21 @@ pub fn table_fill(file: &[u8], table: &Table, bench: u64, list: &mut [u64]) -> H
             bench,
             list.as_mut_ptr(),
             list.len(),
+        )
+    }
+}
+
+pub fn write_module(file: &[u8], at: (u64, u64), list: &[u64], output: &mut [u8]) -> Head {
+    unsafe {
+        xcoff_write_module(
+            file.as_ptr(),
+            file.len(),
+            at.0,
+            at.1,
+            list.as_ptr(),
+            list.len(),
+            output.as_mut_ptr(),
+            output.len(),
         )
     }
 }

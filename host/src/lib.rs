@@ -18,6 +18,7 @@ mod lines;
 mod place;
 mod records;
 mod refusal;
+mod rewrite;
 mod salvage;
 mod shared;
 mod source;
@@ -35,6 +36,7 @@ pub use lines::{find_line, line_count, line_table, FoundLine, LineEntry, LineTab
 pub use place::{places, FieldValue, Place, Value, What};
 pub use records::{read_records, records_length, write_records, write_records_into};
 pub use refusal::Refusal;
+pub use rewrite::{recorded_plan, write_module, write_module_into};
 pub use salvage::{
     changed_fields, changes, salvage, salvage_count, salvage_into, Change, ChangedField, Salvaged,
 };

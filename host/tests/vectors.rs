@@ -464,6 +464,18 @@ fn changes(before: &[u8], after: &[u8]) -> String {
     or_dash(runs.join(","))
 }
 
+fn module_written(file: &[u8], words: &mut Words) -> String {
+    let (p, before) = (plan(words), lent(number(next(words))));
+    let mut out = before.clone();
+    match xcoff::write_module_into(file, &p, &mut out) {
+        Err(refusal) => {
+            assert!(out == before, "a refusal writes");
+            format!("{} / .", given(Err(refusal)))
+        }
+        Ok(()) => format!("written / {}", changes(file, &out)),
+    }
+}
+
 fn salvage(file: &[u8], words: &mut Words) -> String {
     let before = (lent(number(next(words))), lent(number(next(words))));
     let (mut copy, mut report) = before.clone();
@@ -563,6 +575,10 @@ fn operation(asked: &str) -> Op {
             list: numbers(next(words)),
             sheet: bytes(next(words)),
         },
+        "write_module" => Op::WriteModule {
+            plan: their_plan(words),
+            out: lent(number(next(words))),
+        },
         "salvage" => Op::Salvage {
             copy: lent(number(next(words))),
             report: lent(number(next(words))),
@@ -605,6 +621,7 @@ fn answer(file: &[u8], asked: &str) -> String {
         "sheet_write" => sheet_write(&mut words),
         "srecord_write" => srecord_write(file, &mut words),
         "srecord_read" => srecord_read(file, &mut words),
+        "write_module" => module_written(file, &mut words),
         "salvage" => salvage(file, &mut words),
         _ => panic!("no such operation: {op}"),
     }
@@ -734,6 +751,13 @@ fn every_recorded_case_of_request_6_is_answered_as_recorded() {
     assert_eq!(counts.values().sum::<u64>(), 552);
     assert_eq!(counts.len(), 15, "{counts:?}");
     assert_eq!(counts["table"], 242);
+}
+
+#[test]
+fn every_recorded_case_of_request_8_is_answered_as_recorded() {
+    let counts = check("cases-08.txt", |answer| answer);
+    assert_eq!(counts.values().sum::<u64>(), 544);
+    assert_eq!(counts["write_module"], 274);
 }
 
 #[test]

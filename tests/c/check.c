@@ -451,6 +451,40 @@ static void module_rows(void)
     }
 }
 
+/* For other addresses, built alike, and back: the file again. */
+static void module_written(void)
+{
+    static uint8_t output[65536], back[65536], text[0xa0], data[0xa0];
+    uint64_t list[9], own[9];
+    xcoff_module_answer m;
+    xcoff_verdict v;
+    size_t i;
+    for (i = 0; i < 9; i++)
+        own[i] = list[i] = xcoff_loader_symbol(file, length, 3 + i).value;
+    list[0] = 0xfff01200;
+    memset(output, 1, sizeof output);
+    v = xcoff_write_module(file, length, 0x10000, 0x80000, list, 8, output, length);
+    EXPECT(REFUSED(v, 20, 2, 0));
+    v = xcoff_write_module(file, length, 0xffffff61, 0x80000, list, 9, output, length);
+    EXPECT(REFUSED(v, 19, 0, 0));
+    v = xcoff_write_module(file, length, 0x10000, 0x80000, list, 9, output, length + 1);
+    EXPECT(REFUSED(v, 20, 0, 0) && all_are(output, sizeof output, 1));
+    v = xcoff_write_module(file, length, 0x10000, 0x80000, list, 9, output, length);
+    EXPECT(ACCEPTED(v) && all_are(output + length, 8, 1));
+    m = xcoff_module(output, length);
+    EXPECT(ACCEPTED(m) && m.text.address == 0x10000 && m.data.address == 0x80000 && m.bss.address == 0x80060);
+    EXPECT(m.entry.address == 0x80030 && m.toc.address == 0x80040);
+    EXPECT(xcoff_loader_symbol(output, length, 3).value == 0xfff01200);
+    xcoff_build(file, length, 0x10000, 0x80000, list, 9, text, sizeof text, data, sizeof data);
+    EXPECT(memcmp(output + 256, text, sizeof text) == 0 && memcmp(output + 416, data, 0x60) == 0);
+    v = xcoff_write_module(output, length, 0x10000100, 0x200001a0, own, 9, back, length);
+    EXPECT(ACCEPTED(v) && memcmp(back, file, length) == 0);
+    /* Raw data from the last byte of raw text on. */
+    output[20 + 72 + 40 + 22] = 1, output[20 + 72 + 40 + 23] = 0x9f;
+    v = xcoff_write_module(output, length, 0x10000, 0x80000, list, 9, back, length);
+    EXPECT(REFUSED(v, 29, 0, 0) && memcmp(back, file, length) == 0);
+}
+
 /* The name of symbol 48 and the section and auxiliaries of symbol 56 damaged: three changes, and nothing else. */
 static void salvaged(void)
 {
@@ -499,6 +533,7 @@ static void nothing(void)
     EXPECT(xcoff_records_length(NULL, 0, 0, 0, NULL, 0).number == 1);
     EXPECT(xcoff_write_records(NULL, 0, 0, 0, NULL, 0, NULL, 0, NULL, 0, NULL, 0).number == 1);
     EXPECT(xcoff_read_records(NULL, 0, 0, 0, NULL, 0, NULL, 0, NULL, 0, NULL, 0).number == 1);
+    EXPECT(xcoff_write_module(NULL, 0, 0, 0, NULL, 0, NULL, 0).number == 1);
     EXPECT(xcoff_salvage_count(NULL, 0).number == 1 && xcoff_salvage(NULL, 0, NULL, 0, NULL, 0).number == 1);
 }
 
@@ -591,6 +626,7 @@ int main(int argc, char **argv)
     symbol_rows();
     module_rows();
     inlines();
+    module_written();
     salvaged();
     nothing();
     return failed;

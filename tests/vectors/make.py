@@ -212,7 +212,10 @@ def file_case(case):
     after = {key: bytes.fromhex(text) for key, text in case["expect"]["buffers"].items()}
     answer = refused(case["expect"]["answer"])
     assert not answer or after == lent
-    return salvage_case(case, answer, lent, after)
+    if case["op"] == "salvage":
+        return salvage_case(case, answer, lent, after)
+    asked = "write_module %s %x" % (plan(case["plan"]), len(lent["out"]))
+    return "%s = %s" % (asked, answer + " / ." if answer else "written / " + changes(file_of(case), after["out"]))
 
 
 def salvage_case(case, answer, lent, after):
@@ -255,7 +258,7 @@ def whole_line(case):
         return line_case(case)
     if case["op"] == "table":
         return table_case(case)
-    if case["op"] in ("salvage",):
+    if case["op"] in ("salvage", "write_module"):
         return file_case(case)
     answer = case["expect"]["answer"]
     asked = "%s %x" % (case["op"], case["index"]) if "index" in case else case["op"]

@@ -32,7 +32,7 @@ signed-alike true a b h = remainder-neg (2 ^ 64) (lit< tt) a b h
 signed-alike false a b h = h
 
 -- so they have one effect on a field
-field-alike : (wide minus : Bool) (off : ℕ) (a b : ℤ) (bs : List ℕ) → remainder a (2 ^ 64) ≡ remainder b (2 ^ 64)
+pub field-alike : (wide minus : Bool) (off : ℕ) (a b : ℤ) (bs : List ℕ) → remainder a (2 ^ 64) ≡ remainder b (2 ^ 64)
     → addField (bytesWide wide) off (signed minus a) bs ≡ addField (bytesWide wide) off (signed minus b) bs
 field-alike wide minus off a b bs h =
     add-cong (bytesWide wide) off (signed minus a) (signed minus b) bs (field-narrowed wide (signed minus a) (signed minus b) (signed-alike minus a b h))
@@ -56,7 +56,7 @@ module _ (file : List ℕ) (l : Loadable) (i : ℕ) (e : Relocation) where
   symbol-known v h r = rw r (v .known i h)
 
   -- its field is inside its section
-  field-inside : Valid file l → i < l .tables .nreloc → e ≡ relocationAt file l i
+  pub field-inside : Valid file l → i < l .tables .nreloc → e ≡ relocationAt file l i
       → e .place .offset + bytesWide (e .place .wide) ≤ cond (e .place .text) (l .layout .parts .text .size) (l .layout .parts .«data» .size)
   unfolding relocationAt
   field-inside v h r = rw r (v .inside i h .inside)

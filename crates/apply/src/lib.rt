@@ -40,7 +40,7 @@ fn add_to_wide(s: &mut [u8], off: usize, minus: bool, z: u64)
 }
 
 // Adds `z` to the field of 8 or 4 bytes at `off`, or subtracts it.
-fn add_to_field(s: &mut [u8], off: usize, wide: bool, minus: bool, z: u64)
+pub fn add_to_field(s: &mut [u8], off: usize, wide: bool, minus: bool, z: u64)
     requires { ⌜ off + bytesWide wide ≤ length (now s) ⌝ }
     ensures { λ _. ⌜ now (s .exit) ≡ addField (bytesWide wide) off (signed minus (pos z)) (now (s .entry)) ⌝ }
 {
@@ -95,7 +95,7 @@ fn loader_shift(
 
 // A symbol's shift. `d` has those of text, data and bss, symbols 0, 1 and 2. By cases and not `d[symbol]`: from a test `symbol < 3` the
 // compiler takes the symbol's last byte alone as the index, and then reads the symbol byte by byte.
-fn shift_of(
+pub fn shift_of(
     file: &[u8],
     l: Loadable,
     d: [u64; 3],

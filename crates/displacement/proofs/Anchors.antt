@@ -41,7 +41,7 @@ pub sum-64 : (f : Format) (a d s : ℕ) → f ≡ Xcoff64 → s ≡ (a + d) % 2 
 sum-64 f a d s e h = rw (e, h) refl
 
 -- the sum with an exact displacement modulo 2^64 is the exact sum, which drops at the limit
-sum-exact : (f : Format) (a d : ℕ) (z : ℤ) → d ≡ remainder z (2 ^ 64) → (a + d) % addressLimit f ≡ remainder (pos a +ℤ z) (addressLimit f)
+pub sum-exact : (f : Format) (a d : ℕ) (z : ℤ) → d ≡ remainder z (2 ^ 64) → (a + d) % addressLimit f ≡ remainder (pos a +ℤ z) (addressLimit f)
 sum-exact f a d z h =
     let m : ℕ = addressLimit f in
     let same : remainder (pos d) m ≡ remainder z m = narrowed m (limit-positive f) (limit-divides f) (pos d) z (stands d z h) in

@@ -47,7 +47,7 @@ pub fn displacements(at: Addresses, l: Loadable) -> [u64; 3]
 // ---- the answer
 
 // The sum of an address and a displacement, which drops at 2^32 or 2^64.
-fn add_address(f: Format, a: u64, d: u64) -> u64
+pub fn add_address(f: Format, a: u64, d: u64) -> u64
     ensures { λ r. ⌜ r ≡ (a + d) % addressLimit f ⌝ }
 {
     let sum = std::num::wrapping_add_u64(a, d);

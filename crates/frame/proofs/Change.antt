@@ -5,6 +5,8 @@ use mathlib.Core.Logic.{_⊎_, inl, inr}
 use mathlib.Core.List.{List, [], _∷_}
 use Prim.Native.Nat.{ℕ, zero, suc, _+_, _-_, _*_, _^_, _≤_, _<_}
 use native.Mathlib.Decide.{ℕ-discrete, decLt, decLe}
+use native.Mathlib.Numerals.{add-one}
+use native.Mathlib.Nat.{sub-zero}
 use native.Mathlib.Omega.{arith}
 use lib.ListN.{length, getD, take, drop, set, length-set}
 use lib.Seq.{sets, length-sets, getD-set-same, getD-set-other, set-out}
@@ -78,6 +80,22 @@ both-local f g a b =
 pub local-apart : {a : FileRange} {put : List ℕ → List ℕ} (start n : ℕ) → Local a put → Disjoint a (range start n) → (bs : List ℕ) → Same start n (put bs) bs
 local-apart {a} {put} start n c d bs =
     same-bytes start n (put bs) bs (c .keeps bs) (λ k l h. c .outside bs k (λ x. d .none k x (record { low = l; high = h })))
+
+-- ---- a loop over the entries of a table: its start, a turn, its end
+
+module _ (put : ℕ → List ℕ → List ℕ) (n : ℕ) where
+  pub each-start : (bs : List ℕ) → eachFrom put 0 (n - 0) bs ≡ eachFrom put 0 n bs
+  each-start bs = rw (sub-zero n) refl
+
+  pub each-turn : (i : ℕ) (xs ys : List ℕ) → i < n → ys ≡ put i xs → eachFrom put (i + 1) (n - (i + 1)) ys ≡ eachFrom put i (n - i) xs
+  unfolding eachFrom
+  each-turn i xs ys h e =
+      let q : n - i ≡ suc (n - (i + 1)) = omega arith in
+      rw (q, e, add-one i) refl
+
+  pub each-end : (i : ℕ) (bs : List ℕ) → n ≤ i → eachFrom put i (n - i) bs ≡ bs
+  unfolding eachFrom
+  each-end i bs h = let q : n - i ≡ 0 = omega arith in rw q refl
 
 -- ---- each entry of a table
 

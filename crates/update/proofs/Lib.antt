@@ -3,4 +3,3 @@
 pub mod Remainder
 pub mod Stores
 pub mod Laws
-pub mod Figures

@@ -17,6 +17,7 @@ ghost use Rattle.history.specs.Book.{bookImages, bookAfter};
 ghost use Rattle.plan.specs.Relocatable.{relocatableAt};
 ghost use Rattle.image.specs.Report.{reportOfCall};
 ghost use Rattle.srecord.specs.Records.{lengthAnswer, reportOfLength, recordWriteCheck, recordsWritten, recordReadCheck, textAfter, dataAfter};
+ghost use Rattle.written.specs.Write.{rewriteCheck, outputAfter};
 ghost use Rattle.replay.specs.Script.{callsOf};
 ghost use Rattle.replay.specs.Answer.{replayAnswer, reportOfReplay};
 ghost use Rattle.symbol_table.specs.Table.{symbolTable, symbolsAfter};
@@ -324,6 +325,25 @@ pub extern "C" fn xcoff_read_records(
         file,
         srecord::read_records(file, addresses, list, records, text, data),
     )
+}
+
+// Writes the module for a plan into an output of the file's length.
+#[no_mangle]
+pub extern "C" fn xcoff_write_module(
+    file: &[u8],
+    at: u64,
+    dataat: u64,
+    list: &[u64],
+    output: &mut [u8],
+) -> Head
+    ensures answer { λ r. ⌜ r ≡ reportHead (now (file .entry)) (rewriteCheck (now (file .entry)) (record { text = at; dat = dataat; list = now (list .entry) }) (length (now (output .entry)))) ⌝ }
+    ensures output { λ _. ⌜ now (output .exit) ≡ outputAfter (now (file .entry)) (record { text = at; dat = dataat; list = now (list .entry) }) (now (output .entry)) ⌝ }
+{
+    let addresses = Addresses {
+        text: VirtualAddress(at),
+        data: VirtualAddress(dataat),
+    };
+    offset::report_head(file, rewrite::write_module(file, addresses, list, output))
 }
 
 // Lists the symbols that the walk visits: a row of 15 numbers for each.

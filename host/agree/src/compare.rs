@@ -1,6 +1,8 @@
 //! One operation, run by both implementations.
 
-use crate::{address_table, images, later, lines, places, read, records, salvages};
+use crate::{
+    address_table, images, later, lines, places, read, records, rewrites, salvages,
+};
 use reference::generate::Op;
 use reference::Refusal;
 use std::fmt::Debug;
@@ -66,6 +68,7 @@ fn run_both(file: &[u8], op: &Op) -> Agreement {
         } => records::read(file, plan, records, (text, data)),
         Op::FindLine { section, address } => lines::find(file, *section, *address),
         Op::Table(calls) => address_table::calls(file, calls),
+        Op::WriteModule { plan, out } => rewrites::write(file, plan, out),
         Op::Salvage { copy, report } => salvages::salvage(file, copy, report),
         _ if later::is_later(op) => later::alone(file, op),
         _ => read::read(file, op),

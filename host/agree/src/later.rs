@@ -14,7 +14,6 @@ pub fn is_later(op: &Op) -> bool {
             | Op::ObjectBuild { .. }
             | Op::ObjectMove { .. }
             | Op::ObjectCalls { .. }
-            | Op::WriteModule { .. }
     )
 }
 

@@ -13,6 +13,7 @@ mod lister;
 mod places;
 mod read;
 mod records;
+mod rewrites;
 mod run;
 mod salvages;
 mod tables;

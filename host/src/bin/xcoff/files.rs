@@ -54,12 +54,39 @@ pub fn replace_if(
     files: &[(&Path, &[u8])],
     last_look: impl FnOnce() -> Result<(), Problem>,
 ) -> Result<(), Problem> {
-    let mut written = Vec::new();
-    for (path, bytes) in files {
-        let new = write_beside(path, bytes);
-        written.push(new.map_err(|e| cannot_write(path, &e))?);
-    }
+    let written = write_all(files)?;
     last_look()?;
+    put_all(written, files)
+}
+
+/// Replaces a file whole. What was written is read again and judged before that: where it is not as it must be, the
+/// target stays as it was.
+pub fn replace_read_back(
+    path: &Path,
+    bytes: &[u8],
+    judge: impl FnOnce(&[u8]) -> Result<(), Problem>,
+) -> Result<(), Problem> {
+    let files = [(path, bytes)];
+    let written = write_all(&files)?;
+    let doing = || {
+        format!(
+            "cannot read again what was written for {}",
+            escape::argument(path)
+        )
+    };
+    let again = fs::read(&written[0].content.0).map_err(|e| Problem::system(doing(), &e))?;
+    judge(&again)?;
+    put_all(written, &files)
+}
+
+fn write_all(files: &[(&Path, &[u8])]) -> Result<Vec<New>, Problem> {
+    let write = |(path, bytes): &(&Path, &[u8])| {
+        write_beside(path, bytes).map_err(|e| cannot_write(path, &e))
+    };
+    files.iter().map(write).collect()
+}
+
+fn put_all(mut written: Vec<New>, files: &[(&Path, &[u8])]) -> Result<(), Problem> {
     for n in 0..written.len() {
         if n + 1 < written.len() {
             written[n].keep_old();

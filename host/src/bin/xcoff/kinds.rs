@@ -17,6 +17,8 @@ pub enum Written {
     Picture,
     /// A copy of an XCOFF file.
     Copy,
+    /// A module written back.
+    Module,
     Report,
 }
 
@@ -29,6 +31,7 @@ impl Written {
             Written::Picture => "a picture",
             Written::Copy => "a copy of another",
             Written::Report => "a report",
+            Written::Module => "a module written back",
         }
     }
 }

@@ -31,6 +31,7 @@ mod picture;
 mod plans;
 mod problem;
 mod records;
+mod rewrite;
 mod salvage;
 mod shown;
 mod symbols;

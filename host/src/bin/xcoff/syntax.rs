@@ -3,7 +3,7 @@
 use crate::args::Arguments;
 use crate::problem::Problem;
 use crate::{
-    check, dump, images, line, lined, lists, map, plans, records, salvage, symbols, table,
+    check, dump, images, line, lined, lists, map, plans, records, rewrite, salvage, symbols, table,
 };
 
 pub struct Command {
@@ -75,7 +75,7 @@ const fn lister(
     }
 }
 
-pub static COMMANDS: [Command; 18] = [
+pub static COMMANDS: [Command; 19] = [
     lister(
         "headers",
         "the file header and the sections",
@@ -294,6 +294,16 @@ pub static COMMANDS: [Command; 18] = [
         summary: "draws where everything lies on the card",
         help: MAP,
         run: map::map,
+    },
+    Command {
+        name: "rewrite",
+        usage: "FILE SHEET -o FILE2 [--force] [--no-wait]",
+        operands: &["FILE", "SHEET"],
+        optional: 0,
+        options: &[required("-o", &["FILE2"]), FORCE, NO_WAIT],
+        summary: "writes a module back as a file for a sheet",
+        help: REWRITE,
+        run: rewrite::rewrite,
     },
     Command {
         name: "salvage",
@@ -694,6 +704,27 @@ some bytes, with the fields by what they follow.
 --force        replaces an XCOFF file or a sheet too
 --no-wait      ends, with status 3, where another xcoff writes in the folder
 --json         one object a line, without the drawing
+";
+
+const REWRITE: &str = "\
+Writes a module back as an XCOFF file of the same length for a plan sheet, for a
+monitor that takes a file and no images. Raw text and data are as built; the section
+headers, the auxiliary header, the loader section's values of defined symbols and
+its relocation addresses are moved; imports have the sheet's addresses. Every other
+byte is the file's, so values in the symbol table stay as they are. A file whose
+parts share bytes is refused (29 SHARED).
+
+What was written is read again and compared before FILE2 is replaced: its addresses
+are the sheet's, its images are those of FILE for the sheet, and written back for the
+addresses of FILE it is FILE, byte for byte. Images that overlap, addresses that are
+not aligned as the module's own, and a sheet that was probably made for another module
+are warned of. Another XCOFF file is replaced with --force only.
+
+  xcoff rewrite diag.xcoff card7.sheet -o card7.xcoff
+
+-o FILE2   the file to write
+--force    replaces an XCOFF file or a sheet too
+--no-wait  ends, with status 3, where another xcoff writes in the folder
 ";
 
 const SALVAGE: &str = "\

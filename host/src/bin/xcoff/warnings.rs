@@ -6,7 +6,7 @@ use crate::imports::takes_address;
 use crate::load::{Loaded, Sheet};
 use crate::output::{complain, refused_in};
 use crate::problem::Problem;
-use xcoff::{Format, Image, Plan};
+use xcoff::{Format, Image, LoaderRow, Plan};
 
 /// Warns of images that overlap, and of addresses that are not aligned as the module's own.
 pub fn of_addresses(file: &Loaded, plan: &Plan) {
@@ -61,7 +61,7 @@ fn alignments(file: &Loaded, plan: &Plan) -> Vec<String> {
 }
 
 /// Warns of a sheet that was probably made for another module. `plan` writes the recorded values into the places that the
-/// rules ignore; where these are neither that nor all 0, it was another's.
+/// rules ignore; where these are neither that nor all 0, it was another's, unless `rewrite` moved the module in between.
 pub fn of_sheet(file: &Loaded, sheet: &Sheet) -> Result<(), Problem> {
     let symbols = xcoff::loader_symbol_table(&file.bytes);
     let symbols = refused_in(file.path, &file.bytes, symbols)?;
@@ -74,7 +74,8 @@ pub fn of_sheet(file: &Loaded, sheet: &Sheet) -> Result<(), Problem> {
         rows.filter(|(row, _)| !takes_address(row))
     };
     let other = ignored().find(|(row, &address)| address != row.symbol.value);
-    let Some((row, address)) = other.filter(|_| ignored().any(|(_, &address)| address != 0)) else {
+    let another = ignored().any(|(_, &address)| address != 0) && !is_moved(file, ignored());
+    let Some((row, address)) = other.filter(|_| another) else {
         return Ok(());
     };
     let digits = file.digits();
@@ -87,6 +88,21 @@ pub fn of_sheet(file: &Loaded, sheet: &Sheet) -> Result<(), Problem> {
         row.symbol.value,
     )]);
     Ok(())
+}
+
+/// How many of the places that differ are looked at.
+const LOOKED_AT: usize = 16;
+
+/// Whether a sheet was made for this module before `rewrite` moved it: the symbol table, which stays, has the first values.
+fn is_moved<'r>(file: &Loaded, rows: impl Iterator<Item = (&'r LoaderRow<'r>, &'r u64)>) -> bool {
+    let Ok(table) = xcoff::symbol_table(&file.bytes) else {
+        return false;
+    };
+    let differing = rows.filter(|(row, &address)| row.symbol.value != address);
+    differing.take(LOOKED_AT).all(|(row, &address)| {
+        let mut symbols = table.rows();
+        symbols.any(|s| s.symbol.value == address && s.name() == row.name)
+    })
 }
 
 impl Loaded<'_> {

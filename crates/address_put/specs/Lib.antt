@@ -1,0 +1,2 @@
+-- What the contracts of `address_put` cite.
+pub mod New

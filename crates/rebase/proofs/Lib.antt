@@ -1,0 +1,3 @@
+-- The theorems.
+pub mod Rebased
+pub mod Recorded

@@ -1,0 +1,2 @@
+-- What a module written for a plan is to builds and moves.
+pub mod Rebase

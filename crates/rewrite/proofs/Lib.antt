@@ -1,0 +1,4 @@
+-- The laws that the proofs cite.
+pub mod InPlace
+pub mod Entries
+pub mod Write
