@@ -4,15 +4,21 @@ use std::fs::{self, Permissions};
 use std::os::unix::fs::{symlink, PermissionsExt};
 use std::path::{Path, PathBuf};
 use std::process::Command;
+use std::sync::{Mutex, MutexGuard, PoisonError};
 use std::time::Duration;
 
+/// One repository at a time: a process that another test starts while a script is written would have it open, and the system
+/// does not run a file that is open for writing.
+static ONE: Mutex<()> = Mutex::new(());
+
 /// A repository with the script, sources to build from, and a folder with all tools that it may use.
-struct Repository(PathBuf);
+struct Repository(PathBuf, #[allow(dead_code)] MutexGuard<'static, ()>);
 
 impl Repository {
     fn new(name: &str) -> Repository {
         let root = std::env::temp_dir().join(format!("xcoff-script-{}-{name}", std::process::id()));
-        let new = Repository(root);
+        let one = ONE.lock().unwrap_or_else(PoisonError::into_inner);
+        let new = Repository(root, one);
         for folder in ["crates/word/src", "host/src", "tools", "elsewhere"] {
             fs::create_dir_all(new.path(folder)).unwrap();
         }
