@@ -243,3 +243,22 @@ fn the_file_is_read_like_others() {
         "xcoff: plan: --imports /dev/zero: it has more than 16777216 bytes",
     );
 }
+
+#[test]
+fn what_a_file_holds_is_shown_in_plain_characters() {
+    let folder = bench();
+    let texts: [&[u8]; 4] = [
+        "\u{e9} 1 2\n".as_bytes(),
+        "\u{e9} 1\n".as_bytes(),
+        "errno \u{661}\n".as_bytes(),
+        b"\x1b[2J\xff\x01 \x7f\n",
+    ];
+    for text in texts {
+        folder.write("given", text);
+        let ran = folder.run(&plan(&[]));
+        let said = ran.err;
+        assert_eq!((ran.status, ran.out.as_str()), (Some(2), ""), "{said}");
+        let plain = |byte: u8| byte == b'\n' || (0x20..0x7f).contains(&byte);
+        assert!(said.contains("\\x") && said.bytes().all(plain), "{said}");
+    }
+}

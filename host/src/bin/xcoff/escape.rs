@@ -80,6 +80,22 @@ fn digit(byte: u8) -> Option<u8> {
     (byte as char).to_digit(16).map(|d| d as u8)
 }
 
+/// A word of a text that is read, as it stands there: a byte that is no printable character of ASCII as `\xNN`. A longer one
+/// than is shown ends in `\...`.
+pub fn word(bytes: &[u8]) -> String {
+    let mut out = String::new();
+    for &byte in &bytes[..bytes.len().min(MOST)] {
+        match byte {
+            b'!'..=b'~' => out.push(byte as char),
+            _ => push_hex(byte, &mut out),
+        }
+    }
+    if bytes.len() > MOST {
+        out.push_str("\\...");
+    }
+    out
+}
+
 /// A path or an argument of the command line: control characters and bytes that are no UTF-8 as `\xNN`; `''` where it
 /// is empty.
 pub fn argument(text: impl AsRef<Path>) -> String {

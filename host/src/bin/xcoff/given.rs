@@ -69,7 +69,7 @@ impl<'p> Given<'p> {
             [first, ..] if first.starts_with(b"#") => Ok(None),
             [name, digits] => Given::parse(source, OsStr::from_bytes(name), name, digits).map(Some),
             [first, ..] => {
-                let shown = escape::argument(OsStr::from_bytes(first));
+                let shown = source.shown(first);
                 Err(source.wrong(&shown, "a line is NAME HEX or @INDEX HEX"))
             }
         }
@@ -82,13 +82,13 @@ impl<'p> Given<'p> {
         name: &[u8],
         digits: &[u8],
     ) -> Result<Given<'p>, String> {
-        let shown = escape::argument(OsStr::from_bytes(name));
+        let shown = source.shown(name);
         let address = args::hex(digits).ok_or_else(|| {
-            let digits = escape::argument(OsStr::from_bytes(digits));
+            let digits = source.shown(digits);
             let what = format!("{digits} is not a hexadecimal number of at most 64 bits");
             source.wrong(&shown, &what)
         })?;
-        let wrong = |what| source.wrong(&escape::argument(whole), what);
+        let wrong = |what| source.wrong(&source.shown(whole.as_bytes()), what);
         let choice = Choice::parse(name).map_err(wrong)?;
         Ok(Given {
             choice,
@@ -104,6 +104,14 @@ impl<'p> Given<'p> {
 }
 
 impl Source<'_> {
+    /// What was given, as it is shown: an argument, or a word of a file, which may hold anything.
+    fn shown(&self, given: &[u8]) -> String {
+        match self {
+            Source::Option => escape::argument(OsStr::from_bytes(given)),
+            Source::Line(..) => escape::word(given),
+        }
+    }
+
     fn wrong(&self, shown: &str, what: &str) -> String {
         match self {
             Source::Option => format!("--import {shown}: {what}"),
