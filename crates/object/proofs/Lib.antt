@@ -1,0 +1,3 @@
+-- Laws of object files.
+pub mod Sections
+pub mod Answer

@@ -1,0 +1,3 @@
+-- Every object file is sound, so demand 3 holds for it.
+pub mod Sound
+pub mod Demand3File

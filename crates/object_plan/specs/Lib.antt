@@ -1,0 +1,2 @@
+-- What an object file is to builds and moves.
+pub mod Object
