@@ -1,3 +1,4 @@
 -- Every object file is sound, so demand 3 holds for it.
+pub mod Ready
 pub mod Sound
 pub mod Demand3File
