@@ -98,6 +98,7 @@ impl Refusal {
         let i = self.item;
         match self.number {
             5 if i != 0 => format!("the raw data or relocation table of section {i} passes the file's end, or the table's overflow header is not there exactly once"),
+            8 => format!("there is no text or data section {i}"),
             13 => "a text or data section of the object file has no raw data".into(),
             17 => format!("the type, width, address or symbol of relocation entry {i} is bad"),
             19 => format!("section {i} at the plan's address passes the end of the address space"),
