@@ -4,7 +4,7 @@
  *
  *     cc -Iinclude PROGRAM.c target/staticlib/libxcoff_c.a -o PROGRAM
  *
- * examples/build_images.c and examples/move_images.c are two. xcoff_inline.h has names for the numbers below, plans as
+ * examples/build_images.c, examples/move_images.c and examples/place_object.c are three. xcoff_inline.h has names for the numbers below, plans as
  * structs and tables by rows; xcoff_words.h the words of a refusal. Where all is installed, `pkg-config --cflags --libs
  * xcoff` says how to compile.
  *
@@ -21,7 +21,7 @@
  *
  * Every answer starts with `number`, `item` and `offset`. Number 0: accepted, with item 0 and offset 0. Otherwise the
  * call is refused, the number says why, the item what it is about, the offset where that is in the file (see below), and
- * every other field is 0, but for the counts of xcoff_replay.
+ * every other field is 0, but for the counts of xcoff_replay and xcoff_replay_object.
  *
  *   number       why                                                       item
  *    1 SHORT     file or header area ends early                            0
