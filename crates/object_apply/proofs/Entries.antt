@@ -10,6 +10,7 @@ use Rattle.refusal.specs.declared.Verdict.the-variants.{Accepted}
 use Rattle.field_kind.specs.Field.{bytesIn, addTo}
 use Rattle.field_kind.proofs.Laws.{addTo-alike}
 use Rattle.header.specs.declared.Summary.{Summary}
+use Rattle.header.proofs.Accepted.{opened-inside}
 use Rattle.symbol.specs.declared.Tables.{Tables}
 use Rattle.symbol.specs.Entry.{tablesOf}
 use Rattle.section_relocation.specs.declared.ObjectSection.{ObjectSection}
@@ -24,6 +25,7 @@ use Rattle.section_entries.proofs.Accepted.{own-accepted}
 use Rattle.object.specs.Sections.{objectSection}
 use Rattle.object.proofs.Sections.{ready-inside}
 use Rattle.object_plan.specs.Object.{entriesFrom, tableEntries, entriesIn, objectOf}
+use Rattle.object_plan.specs.Shifts.{numbers}
 use Rattle.object_plan.specs.Ready.{ObjectReady, PartReady}
 use Rattle.object_plan.proofs.Ready.{object-entries, object-raw}
 use Rattle.object_plan.proofs.Sound.{part-inside}
@@ -39,6 +41,16 @@ module _ (file : List ℕ) (t : Tables) (s : ObjectSection) (r : PartReady file 
   -- its field is in the section's bytes
   pub field-inside : {e : ObjectEntry} {n : ℕ} → e ≡ objectEntry file t s i → s .place + s .size ≤ n → e .field .offset + bytesIn (e .field .kind) ≤ n
   field-inside e h = rw e (rw (entry-field file t s i) (omega (arith, field-in-held file (t .format) s i (held file t s i own) .upto)))
+
+  -- the sections that it moves with have places in a list of shifts
+  pub symbol-listed : {e : ObjectEntry} {n : ℕ} → e ≡ objectEntry file t s i → n ≡ numbers → e .symbol < n
+  symbol-listed e h =
+      let o = r .entries .tables in
+      let f : t .nscns ≤ 32 = rw (o .tables) (opened-inside file (o .accepted) .few) in
+      rw e (rw (entry-symbol file t s i) (omega (arith, symbol-few file t s i own)))
+
+  pub section-listed : {e : ObjectEntry} {n : ℕ} → e ≡ objectEntry file t s i → n ≡ numbers → e .name .section .0 < n
+  section-listed e h = rw e (rw (entry-name file t s i) (omega (arith, r .number)))
 
   -- a field changed by the amount modulo 2^64 is the entry applied
   pub entry-applied : (sh : Shifts) {e : ObjectEntry} {z : ℕ} (x : List ℕ) {y : List ℕ} → e ≡ objectEntry file t s i → z ≡ remainder (amountOf e sh) (2 ^ 64)
