@@ -5,7 +5,7 @@ use Prim.Native.Nat.{ℕ, _+_, _%_, _^_, _<_}
 use native.Mathlib.Nat.{mod-mod}
 use lib.Dec.{lit<}
 use lib.ListN.{getD}
-use lib.IntN.{ℤ, pos, negℤ, _+ℤ_, _-ℤ_, +ℤ-comm, +ℤ-idl}
+use lib.IntN.{ℤ, pos, negℤ, _-ℤ_, +ℤ-comm, +ℤ-idl}
 use Rattle.update.specs.Update.{remainder}
 use Rattle.update.proofs.Remainder.{remainder-lt, remainder-small, remainder-cong, remainder-sub}
 use Rattle.object_history.specs.declared.AmountKind.{AmountKind}
