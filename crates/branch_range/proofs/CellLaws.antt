@@ -145,8 +145,19 @@ module _ (word : ℕ → ℕ) (base : ℕ) (low high : List ℕ) (g : ObjectFiel
       told : b ≡ wideInRange (wide (pos (cellOf low high x) +ℤ branchValue (word (g .offset))))
       told = k ∙ ap wideInRange (e ∙ ap (λ (y : ℕ). wide (pos (cellOf low high x) +ℤ branchValue y)) q)
 
-pub judge-as : {word : ℕ → ℕ} {base : ℕ} {low high : List ℕ} {g d : ObjectField} {b : Bool} → g ≡ d → JudgeOut word base low high g b → JudgeOut word base low high d b
-judge-as {word} {base} {low} {high} {g} {d} {b} q j = subst (λ (x : ObjectField). JudgeOut word base low high x b) q j
+module _ (g : ℕ → ObjectField) (word : ℕ → ℕ) (base : ℕ) (low high : List ℕ) (i : ℕ) (none : (j : ℕ) → j < i → OutBy word base low high (g j) → ⊥) where
+  pub scan-stop : (n : ℕ) (d : ObjectField) {b : Bool} → i < n → d ≡ g i → JudgeOut word base low high d b → b ≡ true → ScanOut g word base low high n i
+  scan-stop n d l q j h = record { within = omega arith; before = none; here = λ _. subst (OutBy word base low high) q (j .hit h) }
+
+  pub scan-turn : (d : ObjectField) {b : Bool} → d ≡ g i → JudgeOut word base low high d b → b ≡ false → (k : ℕ) → k < i + 1 → OutBy word base low high (g k) → ⊥
+  scan-turn d q j h k l o = go (ℕ-discrete k i)
+    where
+      go : Dec (k ≡ i) → ⊥
+      go (yes e) = j .miss h (subst (OutBy word base low high) (ap g e ∙ sym q) o)
+      go (no e) = none k (omega arith) o
+
+  pub scan-end : (n : ℕ) → n ≤ i → ScanOut g word base low high n n
+  scan-end n h = record { within = omega arith; before = λ k l. none k (omega arith); here = λ l. absurd (omega arith) }
 
 -- ---- a cell's sum is its word's
 

@@ -3,7 +3,7 @@ use mathlib.Core.Path.{_≡_, refl, sym, _∙_, ap}
 use mathlib.Core.Logic.{⊎-elim}
 use mathlib.Core.Bool.{Bool, true, false}
 use mathlib.Core.List.{List}
-use Prim.Native.Nat.{ℕ, _+_, _*_, _^_, _≤_, _<_}
+use Prim.Native.Nat.{ℕ, _+_, _-_, _*_, _^_, _≤_, _<_}
 use native.Mathlib.Decide.{decLt}
 use native.Mathlib.Omega.{arith}
 use lib.ListN.{length, getD}
@@ -23,9 +23,9 @@ use Rattle.field_kind.specs.Field.{bytesIn}
 use Rattle.branch.proofs.Wide.{abs-add, abs-neg}
 use Rattle.object_history.specs.Range.{isBranch}
 use Rattle.section_relocation.specs.declared.ObjectSection.{ObjectSection}
-use Rattle.section_relocation.specs.Entry.{hasBytes, entryIn, isHeld, fieldIn}
-use Rattle.section_relocation.proofs.Entries.{FieldIn, field-in-held}
+use Rattle.section_relocation.specs.Entry.{entryIn, isHeld, fieldIn}
 use Rattle.section_overlap.specs.Overlap.{Readable}
+use Rattle.section_overlap.proofs.Readable.{room, above}
 use Rattle.section_overlap.proofs.Rule.{no-true, no-overlap}
 use Rattle.object_entry.specs.Entry.{ownAt, objectEntry}
 use Rattle.object_entry.proofs.Entries.{held, symbol-few, entry-field, entry-name, entry-symbol}
@@ -40,15 +40,23 @@ branch-long Four e = refl
 branch-long Eight e = no-true e
 branch-long Branch e = refl
 
-branch-some : (k : FieldKind) → isBranch k ≡ true → hasBytes k ≡ true
-branch-some Nothing e = no-true e
-branch-some Four e = refl
-branch-some Eight e = refl
-branch-some Branch e = refl
-
 table-few : (f : Format) (at n len : ℕ) → at + n * entryLength Relocations f ≤ len → len ≤ 16777216 → n < 2 ^ 28
 table-few Xcoff32 at n len h l = omega arith
 table-few Xcoff64 at n len h l = omega arith
+
+-- a branch's word is among the section's bytes
+branch-inside : (file : List ℕ) (f : Format) (s : ObjectSection) (n i : ℕ) → Readable file f s n → i < n → isBranch (fieldIn file f s i .kind) ≡ true
+    → (s .place ≤ fieldIn file f s i .offset) × (fieldIn file f s i .offset + 4 ≤ s .place + s .size)
+branch-inside file f s n i v l b =
+    let e = branch-long (fieldIn file f s i .kind) b in (above file f s n i v l (omega arith), omega (arith, room file f s n i v l))
+
+-- and where these lie from origin on in other bytes, among those
+pub word-inside : (file : List ℕ) (f : Format) (s : ObjectSection) (n i : ℕ) (g : ObjectField) (origin len : ℕ) → Readable file f s n → i < n → g ≡ fieldIn file f s i → (0 < s .size → origin + s .size ≤ len)
+    → isBranch (g .kind) ≡ true → (s .place ≤ g .offset) × (origin + (g .offset - s .place) + 4 ≤ len)
+word-inside file f s n i g origin len v l q h b =
+    let w = branch-inside file f s n i v l (ap (λ (x : ObjectField). isBranch (x .kind)) (sym q) ∙ b) in
+    let e = ap (λ (x : ObjectField). x .offset) q in
+    (omega arith, let m = h (omega arith) in omega arith)
 
 module _ (file : List ℕ) (t : Tables) (s : ObjectSection) (k : PartReady file t s) where
   abbrev g : ℕ → ObjectField
@@ -64,11 +72,6 @@ module _ (file : List ℕ) (t : Tables) (s : ObjectSection) (k : PartReady file 
   part-readable n h = record { ready = k .entries .ready; few = h; held = λ i l. held-good i (omega arith) }
 
   -- ---- fields
-
-  field-inside : (i : ℕ) → i < s .count → isBranch (g i .kind) ≡ true → (s .place ≤ g i .offset) × (g i .offset + 4 ≤ s .place + s .size)
-  field-inside i l b =
-      let h = field-in-held file (t .format) s i (held-good i l) in
-      (h .from (branch-some (g i .kind) b), omega (arith, h .upto, branch-long (g i .kind) b))
 
   one-word : (j i : ℕ) → j < i → i < s .count → isBranch (g j .kind) ≡ true → isBranch (g i .kind) ≡ true
       → g j .offset < g i .offset + 4 → g i .offset < g j .offset + 4 → g j .offset ≡ g i .offset
@@ -89,7 +92,7 @@ module _ (file : List ℕ) (t : Tables) (s : ObjectSection) (k : PartReady file 
 
   pub part-words : Words (objectEntry file t s) (s .count) (s .place) (s .place + s .size)
   part-words = record {
-    inside = λ i l. rw (entry-field file t s i) (field-inside i l);
+    inside = λ i l. rw (entry-field file t s i) (branch-inside file (t .format) s (s .count) i (part-readable (s .count) (omega arith)) l);
     apart = λ i j l m. rw (entry-field file t s i, entry-field file t s j) (same-word i j l m);
   }
 
