@@ -82,7 +82,7 @@ module _ (r : ℕ → ObjectEntry) (s : Shifts) where
   unfolding cellSum
   sum-here base x i h = rw h refl
 
-  pub cells-none : (base : ℕ) (low high : List ℕ) → ((x : ℕ) → getD low x 0 ≡ 0) → ((x : ℕ) → getD high x 0 ≡ 0) → CellsAre r s base 0 low high
+  cells-none : (base : ℕ) (low high : List ℕ) → ((x : ℕ) → getD low x 0 ≡ 0) → ((x : ℕ) → getD high x 0 ≡ 0) → CellsAre r s base 0 low high
   unfolding cellSum wide remainder
   cells-none base low high a b x l = rw (a x, b x) refl
 
@@ -117,12 +117,37 @@ module _ (r : ℕ → ObjectEntry) (s : Shifts) where
           by (yes d) = subst (λ (k : ℕ). cellOf low high k ≡ wide (cellSum r s base k (suc i))) (sym d) here
           by (no d) = a .else y d ∙ are y l₀ ∙ ap wide (sym (sum-other base y i (ap (isInCell base y) (sym q) ∙ cell-not g base (length low₀) c y l₀ d)))
 
-  pub skipped-turn : (i end next next′ : ℕ) (g : ObjectField) → g ≡ r i .field → Skipped r i end next → LowerOut g end next next′ → Skipped r (i + 1) end next′
+  skipped-turn : (i end next next′ : ℕ) (g : ObjectField) → g ≡ r i .field → Skipped r i end next → LowerOut g end next next′ → Skipped r (i + 1) end next′
   skipped-turn i end next next′ g q h low j l = go (ℕ-discrete j i)
     where
       go : Dec (j ≡ i) → isBranch (r j .field .kind) ≡ true → end ≤ r j .field .offset → next′ ≤ r j .field .offset
       go (yes d) = subst (λ (x : ObjectField). isBranch (x .kind) ≡ true → end ≤ x .offset → next′ ≤ x .offset) (q ∙ ap (λ (k : ℕ). r k .field) (sym d)) (low .none)
       go (no d) = λ b e. let m = h j (omega arith) b e in omega (arith, low .high)
+
+  -- ---- all of them
+
+  pub all-none : (base next : ℕ) (low₀ high₀ low high : List ℕ) → Zeros low₀ low → Zeros high₀ high → length high₀ ≡ length low₀ → base + 4 * length low₀ ≤ next → AllOut r s 0 base (length low) next low high
+  all-none base next low₀ high₀ low high a b e h = record {
+    lowSize = refl;
+    highSize = b .size ∙ e ∙ sym (a .size);
+    cells = cells-none base low high (a .zero) (b .zero);
+    further = omega (arith, a .size);
+    skipped = λ j l. absurd (omega arith);
+  }
+
+  pub all-turn : (i base size end next next′ : ℕ) (low₀ high₀ low high : List ℕ) (g : ObjectField) → g ≡ r i .field → end ≡ base + 4 * size → AllOut r s i base size next low₀ high₀
+      → StepOut r s base i low₀ high₀ low high → LowerOut g end next next′ → AllOut r s (i + 1) base size next′ low high
+  all-turn i base size end next next′ low₀ high₀ low high g q e a st lower = record {
+    lowSize = st .lowSize ∙ a .lowSize;
+    highSize = st .highSize ∙ a .highSize;
+    cells = subst (λ (k : ℕ). CellsAre r s base k low high) (sym (add-one i)) (st .cells (a .cells));
+    further = omega (arith, lower .low);
+    skipped = subst (λ (k : ℕ). Skipped r (i + 1) k next′) e (skipped-turn i end next next′ g q (subst (λ (k : ℕ). Skipped r i k next) (sym e) (a .skipped)) lower);
+  }
+
+  pub all-end : (i n base size size′ next : ℕ) (low high : List ℕ) → i ≤ n → n ≤ i → size ≡ size′ → AllOut r s i base size next low high → AllOut r s n base size′ next low high
+  all-end i n base size size′ next low high a b e h =
+      subst (λ (k : ℕ). AllOut r s n base k next low high) e (subst (λ (k : ℕ). AllOut r s k base size next low high) (let q : i ≡ n = omega arith in q) h)
 
 -- ---- words judged
 

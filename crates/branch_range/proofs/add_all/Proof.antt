@@ -1,74 +1,65 @@
+use Rattle.branch_range.proofs.CellLaws.{all-none, all-turn, all-end}
+use Rattle.branch_range.proofs.Known.{held-good}
+use Rattle.branch_range.specs.Cells.{AllOut}
+use Rattle.object_plan.specs.Shifts.{shiftsOf}
+use Rattle.section_relocation.specs.Entry.{fieldIn}
+use Rattle.object_entry.proofs.Entries.{entry-field}
+use Rattle.object_entry.specs.Entry.{objectEntry}
+use Prim.Native.Nat.{ℕ, _+_, _-_, _*_, _≤_, _<_}
+use lib.ListN.{length}
+use mathlib.Core.Path.{_≡_, _∙_, ap, ap₂, sym, refl, subst}
+use borrow.Author.Needs.{needs}
+use native.Mathlib.Omega.{arith}
 use Rattle.branch_range.proofs.add_all.Statement.{statement}
 use Rattle.branch_range.proofs.add_all.Tie as tie
-use Rattle.branch_range.proofs.add_all.Reads as reads
-use Rattle.branch_range.proofs.add_all.Lts as lts
-use Rattle.branch_range.proofs.add_one.Reads as add-one-reads
-use Rattle.branch_range.proofs.clear_high.Reads as clear-high-reads
-use Rattle.branch_range.proofs.clear_low.Reads as clear-low-reads
-use Rattle.branch_range.proofs.lower.Reads as lower-reads
-use Rattle.section_relocation.proofs.field_in.Reads as field-in-reads
 
 abbrev Inv-loop : tie.InvT-loop
-Inv-loop file t s to from base limit low₀ high₀ f end next₀ i₀ low high next i = ?
+Inv-loop file t s to from base limit low₀ high₀ f end next₀ i₀ low high next i = (i ≤ s .count) × (f ≡ t .format) × (end ≡ base + 4 * length low₀) × AllOut (objectEntry file t s) (shiftsOf to from) i base (length low₀) next low high
 
 abbrev μ-loop : tie.MeasureT-loop
-μ-loop file t s to from base limit low₀ high₀ f end next₀ i₀ low high next i = ?
+μ-loop file t s to from base limit low₀ high₀ f end next₀ i₀ low high next i = s .count - i
 
--- src/lib.rt:196:5
 clear-low-requires : tie.Need-clear-low-requires Inv-loop μ-loop
-clear-low-requires c κs = ?
+clear-low-requires c κs = search needs
 
--- src/lib.rt:197:5
 clear-high-requires : tie.Need-clear-high-requires Inv-loop μ-loop
-clear-high-requires c κs = ?
+clear-high-requires c κs = search needs
 
--- src/lib.rt:199:22
 mul-end : tie.Need-mul-end Inv-loop μ-loop
-mul-end c = ?
+mul-end c = omega (arith, c .before .before .before .before .before .before .clear-low .ensures .size, c .before .before .before .before .before .before .before .before .before .before .before .before .before .pre .0 .1, c .before .before .before .before .before .before .before .before .before .before .before .before .before .fits)
 
--- src/lib.rt:199:15
 add-end : tie.Need-add-end Inv-loop μ-loop
-add-end c = ?
+add-end c = omega (arith, c .before .before .before .before .before .before .clear-low .ensures .size, c .before .before .before .before .before .before .before .before .before .before .before .before .before .pre .0 .1, c .before .before .before .before .before .before .before .before .before .before .before .before .before .fits)
 
--- src/lib.rt:202:5
 loop-holds : tie.Need-loop-holds Inv-loop μ-loop
-loop-holds c = ?
+loop-holds c = (omega arith, refl, refl, all-none _ _ _ _ _ _ _ _ (c .before .before .before .before .before .before .clear-low .ensures) (c .before .before .clear-high .ensures) (c .before .before .before .before .before .before .before .before .before .before .before .before .before .pre .1 .2) (c .before .before .before .before .before .before .before .before .before .before .before .before .before .pre .0 .1))
 
--- src/lib.rt:203:13
 field-in-requires : tie.Need-field-in-requires Inv-loop μ-loop
-field-in-requires c κs = ?
+field-in-requires c κs = let a = c .before .before .before .before .before .before .before .before .before .before .before .before .before .before .before .before .args in (c .before .before .before .before .before .before .before .before .before .before .before .before .before .before .before .before .pre .0 .0 .entries .ready, c .if1 .taken, held-good (a .file .now) (a .t) (a .s) (c .before .before .before .before .before .before .before .before .before .before .before .before .before .before .before .before .pre .0 .0) _ (c .if1 .taken))
 
--- src/lib.rt:204:9
 add-one-requires : tie.Need-add-one-requires Inv-loop μ-loop
-add-one-requires c κs = ?
+add-one-requires c κs = ((c .before .before .before .before .before .before .before .before .before .before .before .before .before .before .before .before .before .before .before .pre .0 .0, c .before .before .before .if1 .taken, c .before .before .field-in .ensures), (c .before .before .before .before .before .before .before .before .before .before .before .before .before .before .before .before .before .before .before .pre .1 .0, c .before .before .before .before .before .before .before .before .before .before .before .before .before .before .before .before .before .before .before .pre .1 .1, c .before .before .before .before .before .loop .inv .3 .highSize ∙ sym (c .before .before .before .before .before .loop .inv .3 .lowSize)))
 
--- src/lib.rt:205:9
 lower-requires : tie.Need-lower-requires Inv-loop μ-loop
-lower-requires c κs = ?
+lower-requires c κs = omega (arith, c .before .before .before .before .before .before .before .before .before .before .loop .inv .2, c .before .before .before .before .before .before .before .before .before .before .loop .inv .3 .further)
 
--- src/lib.rt:206:9
 add-i : tie.Need-add-i Inv-loop μ-loop
-add-i c = ?
+add-i c = omega (arith, c .before .before .before .before .before .before .before .before .before .if1 .taken, c .before .before .before .before .before .before .before .before .before .before .before .before .before .before .before .before .before .before .before .before .before .before .before .before .before .fits)
 
--- src/lib.rt:202:5
 loop-less : tie.Need-loop-less Inv-loop μ-loop
-loop-less c = ?
+loop-less c = omega (arith, c .before .before .before .before .before .before .before .before .before .if1 .taken)
 
--- src/lib.rt:202:5
 loop-again : tie.Need-loop-again Inv-loop μ-loop
-loop-again c = ?
+loop-again c = let a = c .before .before .before .before .before .before .before .before .before .before .before .before .before .before .before .before .before .before .before .before .before .before .before .before .before .args in let v = c .before .before .before .before .before .before .before .before .before .before .before .loop .inv in (omega (arith, c .before .before .before .before .before .before .before .before .before .if1 .taken), v .1, v .2, all-turn _ _ _ _ _ _ _ _ _ _ _ _ _ (c .before .before .before .before .before .before .before .before .field-in .ensures ∙ sym (entry-field (a .file .now) (a .t) (a .s) _)) (v .2) (v .3) (c .before .before .before .before .before .add-one .ensures) (c .lower .ensures))
 
--- src/lib.rt:181:1
 same-length : tie.Need-same-length Inv-loop μ-loop
-same-length c = ?
+same-length c = c .before .before .loop .inv .3 .lowSize ∙ c .before .before .before .before .before .before .before .before .before .clear-low .ensures .size
 
--- src/lib.rt:181:1
 same-length-2 : tie.Need-same-length-2 Inv-loop μ-loop
-same-length-2 c = ?
+same-length-2 c = c .before .before .loop .inv .3 .highSize ∙ c .before .before .before .before .before .before .before .before .before .clear-low .ensures .size ∙ sym (c .before .before .before .before .before .before .before .before .before .before .before .before .before .before .before .before .pre .1 .2)
 
--- src/lib.rt:181:1
 returns : tie.Need-returns Inv-loop μ-loop
-returns c = ?
+returns c = all-end _ _ _ _ _ _ _ _ _ _ (c .before .before .loop .inv .0) (c .if1 .left) (c .before .before .before .before .before .before .before .before .before .clear-low .ensures .size) (c .before .before .loop .inv .3)
 
 pub add-all-spec : {M : Type 1} → statement M
 add-all-spec =
