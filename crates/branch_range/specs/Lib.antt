@@ -1,0 +1,2 @@
+-- What the contracts of `branch_range` cite.
+pub mod Range
