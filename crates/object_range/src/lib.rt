@@ -29,7 +29,15 @@ fn origin_of(source: Source, s: ObjectSection) -> u64
 }
 
 // The sections in order; the shift of a section number is `to` minus `from` there.
-fn check_sections(file: &[u8], y: Summary, t: Tables, to: &[u64], from: &[u64], source: Source, bytes: &[u8]) -> Verdict
+fn check_sections(
+    file: &[u8],
+    y: Summary,
+    t: Tables,
+    to: &[u64],
+    from: &[u64],
+    source: Source,
+    bytes: &[u8],
+) -> Verdict
     requires { ⌜ ObjectReady (now file) y t × Covers (now file) y source (now bytes) × (length (now to) ≡ numbers) × (length (now from) ≡ numbers) ⌝ }
     ensures { λ r. ⌜ r ≡ sectionsRange (now (file .entry)) y (shiftsOf (now (to .entry)) (now (from .entry))) source (now (bytes .entry)) ⌝ }
 {
@@ -61,7 +69,14 @@ pub fn check_built(file: &[u8], y: Summary, t: Tables, to: &[u64], from: &[u64])
 }
 
 // RANGE of a move, from what the buffer holds.
-pub fn check_moved(file: &[u8], y: Summary, t: Tables, to: &[u64], from: &[u64], buffer: &[u8]) -> Verdict
+pub fn check_moved(
+    file: &[u8],
+    y: Summary,
+    t: Tables,
+    to: &[u64],
+    from: &[u64],
+    buffer: &[u8],
+) -> Verdict
     requires { ⌜ ObjectReady (now file) y t × (length (now to) ≡ numbers) × (length (now from) ≡ numbers) × (length (now buffer) ≡ length (objectOf (now file) .raw)) ⌝ }
     ensures { λ r. ⌜ r ≡ rangeCheck (objectOf (now (file .entry))) (shiftsOf (now (to .entry)) (now (from .entry))) (now (buffer .entry)) ⌝ }
 {
