@@ -203,9 +203,16 @@ module _ (file : List ℕ) (y : Summary) (inside : Inside file y) (sections : se
       let e : suc k + n ≡ k + suc n = omega arith in
       omega (arith, length-append (rawOf file (part k)) (rawIn file y (suc k) n), raw-one k (omega arith), raw-length (suc k) n (omega arith), bytes-more (length file) y k, ap before e)
 
+  -- in all as many as the first sections, all of them, give the buffer
   pub raw-whole : length (rawIn file y 0 (y .count)) ≡ before (y .count)
   unfolding bytesBefore
   raw-whole = (let z : before 0 ≡ 0 = refl in let e : 0 + y .count ≡ y .count = omega arith in omega (arith, raw-length 0 (y .count) (omega arith), ap before e))
+
+  -- each section has its bytes among them
+  pub part-inside : (k : ℕ) → k < y .count → part k .place + part k .size ≤ length (rawIn file y 0 (y .count))
+  part-inside k l =
+      let e : suc k + (y .count - suc k) ≡ y .count = omega arith in
+      omega (arith, ends k, raw-whole, grows (suc k) (y .count - suc k), ap before e)
 
   pub all-inside : All (history.Inside (rawIn file y 0 (y .count))) (entriesIn file y 0 (y .count))
   all-inside =
