@@ -34,12 +34,13 @@ use Rattle.object.proofs.Sections.{part-place, part-ready, ready-inside}
 use Rattle.object_plan.specs.Object.{entriesFrom, tableEntries, entriesIn, rawIn, objectOf}
 use Rattle.object_plan.specs.Ready.{ObjectReady}
 use Rattle.object_plan.proofs.Ready.{object-entries, object-raw}
-use Rattle.object_plan.proofs.Sound.{Between, entry-between, table-good, ends, grows, raw-whole}
+use Rattle.object_plan.proofs.Sound.{Between, entry-between, table-good, ends, part-inside}
 use Rattle.branch_range.specs.Range.{sumOn, isOut, FirstOut, wordFrom}
+use Rattle.branch_range.proofs.Sums.{sum-amounts}
 use Rattle.object_range.specs.declared.Source.{Source}
 use Rattle.object_range.specs.declared.Source.the-variants.{RawData, Buffer}
 use Rattle.object_range.specs.Sections.{originOf, outAt, partRange, sectionRange, sectionsRange, Covers}
-use Rattle.object_range.proofs.Sums.{sum-amounts, branch-there, amounts-own}
+use Rattle.object_range.proofs.Sums.{branch-there, amounts-own}
 use Rattle.object_range.proofs.Words.{raw-word}
 
 -- ---- the first entry of a section's table
@@ -164,12 +165,8 @@ module _ (file : List ℕ) (y : Summary) (t : Tables) (r : ObjectReady file y t)
     range-moved = sym (range-object x Buffer x buffer-same)
 
     pub buffer-covers : length x ≡ length (objectOf file .raw) → Covers file y Buffer x
-    buffer-covers h = record { holds = holds }
-      where
-        holds : (k : ℕ) → k < y .count → 0 < part k .size → part k .place + part k .size ≤ length x
-        holds k l z =
-            let e : suc k + (y .count - suc k) ≡ y .count = omega arith in
-            omega (arith, ends file y inside (r .sections .sections) (r .tables) k, grows file y inside (r .sections .sections) (r .tables) (suc k) (y .count - suc k), ap starts e, h, ap length (object-raw file y t r), raw-whole file y inside (r .sections .sections) (r .tables))
+    buffer-covers h =
+        record { holds = λ k l z. omega (arith, part-inside file y inside (r .sections .sections) (r .tables) k l, h, ap length (object-raw file y t r)) }
 
   pub file-covers : Covers file y RawData file
   file-covers = record { holds = λ k l z. part-ready file y inside (r .sections .sections) k l .raw z }

@@ -5,11 +5,10 @@ use mathlib.Core.Logic.{_⊎_, inl, inr, ⊎-elim}
 use mathlib.Core.Bool.{Bool, true, false, cond, _&&_}
 use mathlib.Core.List.{List, [], _∷_, _++_}
 use native.Mathlib.Decide.{ℕ-discrete}
-use native.Mathlib.Nat.{zero-add}
 use native.Mathlib.Omega.{arith}
 use lib.Dec.{eqb}
 use lib.ListN.{length}
-use lib.IntN.{ℤ, pos, _+ℤ_, +ℤ-assoc, +ℤ-comm, +ℤ-idl, +ℤ-idr}
+use lib.IntN.{ℤ, pos, _+ℤ_, +ℤ-assoc, +ℤ-idl, +ℤ-idr}
 use borrow.Author.Tests.{ne-eqb}
 use Rattle.refusal.specs.declared.Verdict.the-variants as verdict
 use Rattle.book.specs.Machine.{Shifts}
@@ -19,17 +18,13 @@ use Rattle.field_kind.specs.declared.FieldKind.the-variants as kind
 use Rattle.field_kind.specs.declared.ObjectField.{ObjectField}
 use Rattle.header.specs.declared.Summary.{Summary}
 use Rattle.header.specs.Inside.{Inside}
-use Rattle.symbol.specs.declared.Tables.{Tables}
 use Rattle.symbol.specs.Entry.{tablesOf}
 use Rattle.object_history.specs.declared.ObjectEntry.{ObjectEntry}
 use Rattle.object_history.specs.Entry.{amountOf}
 use Rattle.object_history.specs.Range.{isBranch, isOn, amountsOn}
-use Rattle.section_relocation.specs.declared.ObjectSection.{ObjectSection}
-use Rattle.object_entry.specs.Entry.{objectEntry}
 use Rattle.object.specs.Sections.{bytesBefore, objectSection}
 use Rattle.object.specs.Check.{sectionsCheck, tablesCheck}
-use Rattle.object_plan.specs.Object.{entriesFrom, tableEntries, entriesIn}
-use Rattle.branch_range.specs.Range.{sumOn}
+use Rattle.object_plan.specs.Object.{tableEntries, entriesIn}
 use Rattle.object_plan.proofs.Sound.{Between, all-map, from-between, table-good, ends, grows, in-between}
 
 -- ---- lists, one after the other
@@ -46,28 +41,6 @@ unfolding amountsOn
 amounts-none off [] s a = refl
 amounts-none off (e ∷ es) s a =
     ap₂ (λ (b : Bool) (z : ℤ). cond b (amountOf e s) (pos 0) +ℤ z) (a .0) (amounts-none off es s (a .1))
-
--- ---- the sum over a section's numbered entries is that over their list
-
-module _ (file : List ℕ) (t : Tables) (p : ObjectSection) where
-  one : (n : ℕ) (s : Shifts) (off : ℕ) → ℤ
-  one n s off = cond (isOn off (objectEntry file t p n)) (amountOf (objectEntry file t p n) s) (pos 0)
-
-  -- one more at the end
-  last : (i n : ℕ) (s : Shifts) (off : ℕ) → amountsOn off (entriesFrom file t p i (suc n)) s ≡ one (i + n) s off +ℤ amountsOn off (entriesFrom file t p i n) s
-  unfolding amountsOn entriesFrom one
-  last i zero s off = let e : i ≡ i + 0 = omega arith in ap (λ (k : ℕ). one k s off +ℤ pos 0) e
-  last i (suc n) s off =
-      let e : suc i + n ≡ i + suc n = omega arith in
-      ap (λ (z : ℤ). one i s off +ℤ z) (last (suc i) n s off ∙ ap (λ (k : ℕ). one k s off +ℤ amountsOn off (entriesFrom file t p (suc i) n) s) e)
-      ∙ sym (+ℤ-assoc (one i s off) (one (i + suc n) s off) (amountsOn off (entriesFrom file t p (suc i) n) s))
-      ∙ ap (λ (z : ℤ). z +ℤ amountsOn off (entriesFrom file t p (suc i) n) s) (+ℤ-comm (one i s off) (one (i + suc n) s off))
-      ∙ +ℤ-assoc (one (i + suc n) s off) (one i s off) (amountsOn off (entriesFrom file t p (suc i) n) s)
-
-  pub sum-amounts : (n : ℕ) (s : Shifts) (off : ℕ) → sumOn (objectEntry file t p) n s off ≡ amountsOn off (entriesFrom file t p 0 n) s
-  unfolding sumOn objectEntry one
-  sum-amounts zero s off = unfold amountsOn entriesFrom in refl
-  sum-amounts (suc n) s off = ap (λ (z : ℤ). one n s off +ℤ z) (sum-amounts n s off) ∙ ap (λ (k : ℕ). one k s off +ℤ amountsOn off (entriesFrom file t p 0 n) s) (sym (zero-add n)) ∙ sym (last 0 n s off)
 
 -- ---- a word outside of the bytes that an entry's field is among
 
