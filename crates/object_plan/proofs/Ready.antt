@@ -20,7 +20,7 @@ use Rattle.section_relocation.specs.declared.ObjectSection.{ObjectSection}
 use Rattle.section_entries.specs.Entries.{entriesCheck}
 use Rattle.object.specs.Sections.{isHeldKind, sectionAt, numberAt, tableOr, heldPart, emptyPart, partAt, bytesBefore, entriesBefore, objectSection}
 use Rattle.object.specs.Check.{Ready, SectionsReady, sectionsCheck, tableCheck, tablesCheck, objectIn, objectCheck}
-use Rattle.object.proofs.Sections.{ready-inside, sections-entries}
+use Rattle.object.proofs.Sections.{part-number, ready-inside, sections-entries}
 use Rattle.object.proofs.Answer.{sections-ready}
 use Rattle.object_history.specs.declared.ObjectEntry.{ObjectEntry}
 use Rattle.object_history.specs.Object.{Object, Placed}
@@ -33,14 +33,6 @@ object-ready file {y} r e h = record { sections = sections-ready file r e h; tab
   where
     from : objectIn file y ≡ verdict.Accepted → tablesCheck file y ≡ verdict.Accepted
     from q = unfold objectIn in accepted-rest (sectionsCheck (length file) y) (tablesCheck file y) q
-
-part-number : (len : ℕ) (y : Summary) (k place first : ℕ) → partAt len y k place first .number ≡ numberAt k
-unfolding partAt
-part-number len y k place first = by (isHeldKind (sectionAt y k .kind))
-  where
-    by : (b : Bool) → cond b (heldPart (sectionAt y k) (numberAt k) (tableOr (tableOf Relocations y len (numberAt k))) place first) (emptyPart (numberAt k) place first) .number ≡ numberAt k
-    by true = refl
-    by false = refl
 
 module _ (file : List ℕ) (y : Summary) (t : Tables) (r : ObjectReady file y t) where
   inside : Inside file y
