@@ -1,7 +1,6 @@
 -- What an accepted object file leaves known. Assumes nothing.
 use Prim.Native.Nat.{ℕ, _+_, _≤_, _<_}
 use mathlib.Core.Path.{_≡_, refl, sym, _∙_, ap}
-use mathlib.Core.Bool.{Bool, true, false, cond}
 use mathlib.Core.List.{List, []}
 use native.Mathlib.Omega.{arith}
 use lib.ListN.{length}
@@ -14,11 +13,9 @@ use Rattle.header.specs.Inside.{Inside}
 use Rattle.header.specs.Open.{openOf}
 use Rattle.symbol.specs.declared.Tables.{Tables}
 use Rattle.symbol.specs.Entry.{tablesOf}
-use Rattle.table_kind.specs.declared.TableKind.the-variants.{Relocations}
-use Rattle.section_tables.specs.Tables.{tableOf}
 use Rattle.section_relocation.specs.declared.ObjectSection.{ObjectSection}
 use Rattle.section_entries.specs.Entries.{entriesCheck}
-use Rattle.object.specs.Sections.{isHeldKind, sectionAt, numberAt, tableOr, heldPart, emptyPart, partAt, bytesBefore, entriesBefore, objectSection}
+use Rattle.object.specs.Sections.{bytesBefore, entriesBefore, objectSection}
 use Rattle.object.specs.Check.{Ready, SectionsReady, sectionsCheck, tableCheck, tablesCheck, objectIn, objectCheck}
 use Rattle.object.proofs.Sections.{part-number, ready-inside, sections-entries}
 use Rattle.object.proofs.Answer.{sections-ready}
