@@ -44,14 +44,7 @@ fn add_shift(s: Sum, a: u64, b: u64) -> Sum
 }
 
 // A sum with what an entry adds, by the shifts of its symbol and of its own section.
-fn add_amount(
-    s: Sum,
-    kind: AmountKind,
-    symbol: u64,
-    section: u64,
-    to: &[u64],
-    from: &[u64],
-) -> Sum
+fn add_amount(s: Sum, kind: AmountKind, symbol: u64, section: u64, to: &[u64], from: &[u64]) -> Sum
     requires { ⌜ (length (now to) ≡ 33) × (length (now from) ≡ 33) × (symbol < 33) × (section < 33) ⌝ }
     ensures { λ r. ⌜ sumOf r ≡ wide (pos (sumOf s) +ℤ amountBy kind (shiftsOf (now (to .entry)) (now (from .entry)) symbol) (shiftsOf (now (to .entry)) (now (from .entry)) section)) ⌝ }
 {
