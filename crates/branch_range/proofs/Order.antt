@@ -25,15 +25,18 @@ use Rattle.branch_range.proofs.Sums.{word-told}
 
 -- ---- the first branch
 
+pub branch-told : (g : ℕ → ObjectField) (i : ℕ) (d : ObjectField) {b c : Bool} → d ≡ g i → b ≡ isBranch (d .kind) → b ≡ c → isBranch (g i .kind) ≡ c
+branch-told g i d q e h = ap (λ (x : ObjectField). isBranch (x .kind)) (sym q) ∙ sym e ∙ h
+
 module _ (g : ℕ → ObjectField) (i : ℕ) (none : (j : ℕ) → j < i → isBranch (g j .kind) ≡ false) where
   pub branch-stop : (n : ℕ) (d : ObjectField) {b : Bool} → i < n → d ≡ g i → b ≡ isBranch (d .kind) → b ≡ true → FirstBranch g n i
-  branch-stop n d l q e h = record { within = omega arith; before = none; here = λ _. ap (λ (x : ObjectField). isBranch (x .kind)) (sym q) ∙ sym e ∙ h }
+  branch-stop n d l q e h = record { within = omega arith; before = none; here = λ _. branch-told g i d q e h }
 
   pub branch-turn : (d : ObjectField) {b : Bool} → d ≡ g i → b ≡ isBranch (d .kind) → b ≡ false → (j : ℕ) → j < i + 1 → isBranch (g j .kind) ≡ false
   branch-turn d q e h j l = go (ℕ-discrete j i)
     where
       go : Dec (j ≡ i) → isBranch (g j .kind) ≡ false
-      go (yes k) = ap (λ (x : ℕ). isBranch (g x .kind)) k ∙ ap (λ (x : ObjectField). isBranch (x .kind)) (sym q) ∙ sym e ∙ h
+      go (yes k) = ap (λ (x : ℕ). isBranch (g x .kind)) k ∙ branch-told g i d q e h
       go (no k) = none j (omega arith)
 
   pub branch-end : (n : ℕ) → n ≤ i → FirstBranch g n n
@@ -248,7 +251,7 @@ module _ (r : ℕ → ObjectEntry) (s : Shifts) (word : ℕ → ℕ) where
 
   module _ (g : ℕ → ObjectField) (q : (j : ℕ) → r j .field ≡ g j) where
     branch-as : (i : ℕ) (d : ObjectField) {b c : Bool} → d ≡ g i → b ≡ isBranch (d .kind) → b ≡ c → isBranch (r i .field .kind) ≡ c
-    branch-as i d e h k = ap (λ (x : ObjectField). isBranch (x .kind)) (q i ∙ sym e) ∙ sym h ∙ k
+    branch-as i d e h k = ap (λ (x : ObjectField). isBranch (x .kind)) (q i) ∙ branch-told g i d e h k
 
     offset-as : (i : ℕ) (d : ObjectField) → d ≡ g i → d .offset ≡ offset i
     offset-as i d e = ap (λ (x : ObjectField). x .offset) (e ∙ sym (q i))

@@ -1,8 +1,7 @@
-use Rattle.branch_range.proofs.Order.{step-plain, step-same, step-new}
+use Rattle.section_relocation.specs.Entry.{fieldIn}
+use Rattle.branch_range.proofs.Order.{branch-told, step-plain, step-same, step-new}
 use Rattle.branch_range.proofs.Known.{held-good, part-small}
 use Rattle.object_entry.proofs.Entries.{entry-field}
-use Rattle.object_history.specs.Range.{isBranch}
-use Rattle.field_kind.specs.declared.ObjectField.{ObjectField}
 use borrow.Author.Tests.{not-true, not-false, ltb-true}
 use mathlib.Core.Path.{_≡_, _∙_, ap, ap₂, sym, refl, subst}
 use native.Mathlib.Omega.{arith}
@@ -29,7 +28,7 @@ close-requires : tie.Need-close-requires
 close-requires c κs = search needs
 
 start-word-requires : tie.Need-start-word-requires
-start-word-requires c κs = let p = c .before .before .before .before .before .before .before .before .before .before .before .before .before .before .pre in ((p .0 .0, p .0 .1, ap (λ (x : ObjectField). isBranch (x .kind)) (sym (c .before .before .before .before .before .before .before .before .before .field-in .ensures)) ∙ sym (c .before .before .before .before .before .before .before .before .is-branch .ensures) ∙ not-false _ (c .before .before .before .before .before .before .before .if1 .left)), (p .1 .0 .0, p .1 .0 .1, p .0 .2))
+start-word-requires c κs = let a = c .before .before .before .before .before .before .before .before .before .before .before .before .before .before .args in let p = c .before .before .before .before .before .before .before .before .before .before .before .before .before .before .pre in ((p .0 .0, p .0 .1, branch-told (fieldIn (a .file .now) (a .t .format) (a .s)) (a .i) _ (c .before .before .before .before .before .before .before .before .before .field-in .ensures) (c .before .before .before .before .before .before .before .before .is-branch .ensures) (not-false _ (c .before .before .before .before .before .before .before .if1 .left))), (p .1 .0 .0, p .1 .0 .1, p .0 .2))
 
 returns-3 : tie.Need-returns-3
 returns-3 c = let a = c .before .before .before .before .before .before .before .before .before .before .before .before .before .before .before .args in let p = c .before .before .before .before .before .before .before .before .before .before .before .before .before .before .before .pre in λ h. step-new _ _ _ _ (λ j. entry-field (a .file .now) (a .t) (a .s) j) _ _ _ _ _ _ _ (c .before .before .before .before .before .before .before .before .before .before .field-in .ensures) (c .before .before .before .before .before .before .before .before .before .is-branch .ensures) (not-false _ (c .before .before .before .before .before .before .before .before .if1 .left)) (ltb-true _ _ h) (p .1 .1) (part-small (a .file .now) (a .t) (a .s) (a .to .now) (a .from .now) (p .0 .0) (λ j. c .before .before .before .before .before .before .before .before .before .before .before .before .before .shared-slice-known2 .given j .fits) (λ j. c .before .before .before .before .before .before .before .before .before .before .before .before .shared-slice-known3 .given j .fits)) (p .0 .1) (c .before .close .ensures) (c .start-word .ensures)
