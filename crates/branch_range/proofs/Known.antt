@@ -1,19 +1,18 @@
 -- What an accepted section leaves known of its entries. Assumes nothing.
 use mathlib.Core.Path.{_≡_, refl, sym, _∙_, ap}
 use mathlib.Core.Logic.{⊎-elim}
-use mathlib.Core.Bool.{Bool, true, false}
+use mathlib.Core.Bool.{true}
 use mathlib.Core.List.{List}
 use Prim.Native.Nat.{ℕ, _+_, _-_, _*_, _^_, _≤_, _<_}
 use native.Mathlib.Decide.{decLt}
 use native.Mathlib.Omega.{arith}
 use lib.ListN.{length, getD}
-use lib.IntN.{ℤ, pos, negℤ, natAbs, _-ℤ_}
+use lib.IntN.{pos, negℤ, natAbs}
 use Rattle.refusal.specs.declared.Verdict.the-variants.{Accepted}
 use Rattle.format.specs.declared.Format.{Format}
 use Rattle.format.specs.declared.Format.the-variants.{Xcoff32, Xcoff64}
 use Rattle.header.proofs.Accepted.{opened-inside}
 use Rattle.symbol.specs.declared.Tables.{Tables}
-use Rattle.symbol.specs.Entry.{OpenTables}
 use Rattle.table_kind.specs.declared.TableKind.the-variants.{Relocations}
 use Rattle.table_kind.specs.Kind.{entryLength}
 use Rattle.field_kind.specs.declared.FieldKind.{FieldKind}

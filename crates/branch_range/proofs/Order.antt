@@ -1,5 +1,5 @@
 -- The laws of the pass over branches in ascending order. Assumes nothing.
-use mathlib.Core.Path.{_≡_, refl, sym, _∙_, ap, ap₂, subst}
+use mathlib.Core.Path.{_≡_, refl, sym, _∙_, ap, subst}
 use mathlib.Core.Bool.{Bool, true, false, cond, not, _&&_}
 use Prim.Native.Nat.{ℕ, zero, suc, _+_, _≤_, _<_}
 use native.Mathlib.Decide.{decLt, ℕ-discrete}
@@ -16,7 +16,7 @@ use Rattle.branch.proofs.Wide.{wide-add}
 use Rattle.object_history.specs.declared.ObjectEntry.{ObjectEntry}
 use Rattle.object_history.specs.Entry.{amountOf}
 use Rattle.object_history.specs.Range.{isBranch, isOn}
-use Rattle.section_overlap.proofs.Rule.{no-true, no-false}
+use Rattle.section_overlap.proofs.Rule.{no-true}
 use Rattle.branch_range.specs.declared.Run.{Run}
 use Rattle.branch_range.specs.Range.{sumOn, isOut, FirstOut}
 use Rattle.branch_range.specs.Cells.{Small}

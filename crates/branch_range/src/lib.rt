@@ -496,7 +496,10 @@ fn by_order(
     let f = t.format;
     let k = first_branch(file, f, s);
     if n <= k {
-        return OrderAnswer { known: true, first: n };
+        return OrderAnswer {
+            known: true,
+            first: n,
+        };
     }
     let mut run = begin(file, t, s, to, from, bytes, origin, k);
     let mut i = k + 1;

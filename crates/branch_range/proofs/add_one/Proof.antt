@@ -1,7 +1,7 @@
 use Rattle.branch_range.proofs.CellLaws.{step-none, step-add}
 use Rattle.branch_range.proofs.Known.{own-good, part-numbers}
 use Rattle.object_entry.proofs.Entries.{entry-field}
-use mathlib.Core.Path.{_≡_, _∙_, ap, ap₂, sym, refl, subst}
+use mathlib.Core.Path.{_∙_, sym}
 use native.Mathlib.Omega.{arith}
 use borrow.Author.Needs.{needs}
 use Rattle.branch_range.proofs.add_one.Statement.{statement}

@@ -1,6 +1,4 @@
 use Rattle.branch_range.proofs.CellLaws.{cell-set}
-use mathlib.Core.Path.{_≡_, _∙_, ap, ap₂, sym, refl, subst}
-use native.Mathlib.Omega.{arith}
 use borrow.Author.Needs.{needs}
 use Rattle.branch_range.proofs.add_to_cell.Statement.{statement}
 use Rattle.branch_range.proofs.add_to_cell.Tie as tie

@@ -1,9 +1,6 @@
 use Rattle.branch_range.proofs.Order.{begin-run}
 use Rattle.branch_range.proofs.Known.{held-good}
 use Rattle.object_entry.proofs.Entries.{entry-field}
-use mathlib.Core.Path.{_≡_, _∙_, ap, ap₂, sym, refl, subst}
-use borrow.Author.Needs.{needs}
-use native.Mathlib.Omega.{arith}
 use Rattle.branch_range.proofs.begin.Statement.{statement}
 use Rattle.branch_range.proofs.begin.Tie as tie
 

@@ -1,6 +1,4 @@
 use Rattle.branch_range.proofs.Order.{closed-found, closed-in, closed-out}
-use mathlib.Core.Path.{_≡_, _∙_, ap, ap₂, sym, refl, subst}
-use native.Mathlib.Omega.{arith}
 use borrow.Author.Needs.{needs}
 use Rattle.branch_range.proofs.close.Statement.{statement}
 use Rattle.branch_range.proofs.close.Tie as tie

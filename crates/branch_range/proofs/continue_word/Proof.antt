@@ -2,9 +2,6 @@ use Rattle.object_plan.specs.Shifts.{shiftsOf}
 use Rattle.branch.specs.Branch.{sumOf}
 use Rattle.branch_range.proofs.Amounts.{amount-as}
 use Rattle.branch_range.proofs.Known.{own-good, part-numbers}
-use mathlib.Core.Path.{_≡_, _∙_, ap, ap₂, sym, refl, subst}
-use borrow.Author.Needs.{needs}
-use native.Mathlib.Omega.{arith}
 use Rattle.branch_range.proofs.continue_word.Statement.{statement}
 use Rattle.branch_range.proofs.continue_word.Tie as tie
 

@@ -3,7 +3,7 @@ use Rattle.object_history.specs.Range.{isBranch}
 use Rattle.section_relocation.specs.Entry.{fieldIn}
 use mathlib.Core.Bool.{false}
 use Prim.Native.Nat.{ℕ, _-_, _≤_, _<_}
-use mathlib.Core.Path.{_≡_, _∙_, ap, ap₂, sym, refl, subst}
+use mathlib.Core.Path.{_≡_}
 use borrow.Author.Needs.{needs}
 use native.Mathlib.Omega.{arith}
 use Rattle.branch_range.proofs.first_branch.Statement.{statement}

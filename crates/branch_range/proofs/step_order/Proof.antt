@@ -3,8 +3,6 @@ use Rattle.branch_range.proofs.Order.{branch-told, step-plain, step-sam
 use Rattle.branch_range.proofs.Known.{held-good, part-small}
 use Rattle.object_entry.proofs.Entries.{entry-field}
 use borrow.Author.Tests.{not-true, not-false, ltb-true}
-use mathlib.Core.Path.{_≡_, _∙_, ap, ap₂, sym, refl, subst}
-use native.Mathlib.Omega.{arith}
 use borrow.Author.Needs.{needs}
 use Rattle.branch_range.proofs.step_order.Statement.{statement}
 use Rattle.branch_range.proofs.step_order.Tie as tie

@@ -5,10 +5,9 @@ use Rattle.branch_range.specs.Range.{wordFrom}
 use Rattle.object_plan.specs.Shifts.{shiftsOf}
 use Rattle.object_entry.proofs.Entries.{entry-field}
 use Rattle.object_entry.specs.Entry.{objectEntry}
-use Prim.Native.Nat.{ℕ, _+_, _-_, _*_, _≤_, _<_}
+use Prim.Native.Nat.{_+_, _-_, _*_}
 use lib.ListN.{length}
-use mathlib.Core.Path.{_≡_, _∙_, ap, ap₂, sym, refl, subst}
-use borrow.Author.Needs.{needs}
+use mathlib.Core.Path.{_≡_, _∙_, sym, refl}
 use native.Mathlib.Omega.{arith}
 use Rattle.branch_range.proofs.sweep.Statement.{statement}
 use Rattle.branch_range.proofs.sweep.Tie as tie
