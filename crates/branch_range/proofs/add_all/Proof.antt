@@ -2,12 +2,11 @@ use Rattle.branch_range.proofs.CellLaws.{all-none, all-turn, all-end}
 use Rattle.branch_range.proofs.Known.{held-good}
 use Rattle.branch_range.specs.Cells.{AllOut}
 use Rattle.object_plan.specs.Shifts.{shiftsOf}
-use Rattle.section_relocation.specs.Entry.{fieldIn}
 use Rattle.object_entry.proofs.Entries.{entry-field}
 use Rattle.object_entry.specs.Entry.{objectEntry}
-use Prim.Native.Nat.{ℕ, _+_, _-_, _*_, _≤_, _<_}
+use Prim.Native.Nat.{_+_, _-_, _*_, _≤_}
 use lib.ListN.{length}
-use mathlib.Core.Path.{_≡_, _∙_, ap, ap₂, sym, refl, subst}
+use mathlib.Core.Path.{_≡_, _∙_, sym, refl}
 use borrow.Author.Needs.{needs}
 use native.Mathlib.Omega.{arith}
 use Rattle.branch_range.proofs.add_all.Statement.{statement}
