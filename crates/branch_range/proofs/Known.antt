@@ -30,7 +30,7 @@ use Rattle.section_overlap.proofs.Rule.{no-true, no-overlap}
 use Rattle.object_entry.specs.Entry.{ownAt, objectEntry}
 use Rattle.object_entry.proofs.Entries.{held, symbol-few, entry-field, entry-name, entry-symbol}
 use Rattle.section_entries.proofs.Accepted.{own-accepted, none-overlaps}
-use Rattle.object_plan.specs.Shifts.{shiftsOf}
+use Rattle.object_plan.specs.Shifts.{addressShifts}
 use Rattle.object_plan.specs.Ready.{PartReady}
 use Rattle.branch_range.specs.Cells.{Words, Small}
 
@@ -124,10 +124,10 @@ module _ (file : List ℕ) (t : Tables) (s : ObjectSection) (k : PartReady file 
 -- ---- shifts
 
 -- of numbers of 64 bits
-shifts-small : (to from : List ℕ) → ((k : ℕ) → getD to k 0 < 2 ^ 64) → ((k : ℕ) → getD from k 0 < 2 ^ 64) → (k : ℕ) → natAbs (shiftsOf to from k) ≤ 2 ^ 65
-unfolding shiftsOf
+shifts-small : (to from : List ℕ) → ((k : ℕ) → getD to k 0 < 2 ^ 64) → ((k : ℕ) → getD from k 0 < 2 ^ 64) → (k : ℕ) → natAbs (addressShifts to from k) ≤ 2 ^ 65
+unfolding addressShifts
 shifts-small to from a b k = omega (arith, a k, b k, abs-neg (pos (getD from k 0)), abs-add (pos (getD to k 0)) (negℤ (pos (getD from k 0))))
 
 -- a section's sums are small
-pub part-small : (file : List ℕ) (t : Tables) (s : ObjectSection) (to from : List ℕ) → PartReady file t s → ((k : ℕ) → getD to k 0 < 2 ^ 64) → ((k : ℕ) → getD from k 0 < 2 ^ 64) → Small (s .count) (shiftsOf to from)
+pub part-small : (file : List ℕ) (t : Tables) (s : ObjectSection) (to from : List ℕ) → PartReady file t s → ((k : ℕ) → getD to k 0 < 2 ^ 64) → ((k : ℕ) → getD from k 0 < 2 ^ 64) → Small (s .count) (addressShifts to from)
 part-small file t s to from k a b = record { few = part-few file t s k; shifts = shifts-small to from a b }

@@ -11,7 +11,7 @@ ghost use Rattle.object_history.specs.Range.{isBranch};
 ghost use Rattle.section_relocation.specs.Entry.{fieldIn};
 ghost use Rattle.section_overlap.specs.Overlap.{Readable};
 ghost use Rattle.object_entry.specs.Entry.{objectEntry};
-ghost use Rattle.object_plan.specs.Shifts.{shiftsOf};
+ghost use Rattle.object_plan.specs.Shifts.{addressShifts};
 ghost use Rattle.object_plan.specs.Ready.{PartReady};
 ghost use Rattle.branch_range.specs.Range.{FirstOut, wordFrom};
 ghost use Rattle.branch_range.specs.Cells.{CellOut, AddOut, Zeros, StepOut, LowerOut, AllOut, JudgeOut, ScanOut};
@@ -62,7 +62,7 @@ fn add_shift(s: Sum, a: u64, b: u64) -> Sum
 // A sum with what an entry adds, by the shifts of its symbol and of its own section.
 fn add_amount(s: Sum, e: ObjectEntry, to: &[u64], from: &[u64]) -> Sum
     requires { ⌜ (length (now to) ≡ 33) × (length (now from) ≡ 33) × (e .symbol < 33) × (e .name .section .0 < 33) ⌝ }
-    ensures { λ r. ⌜ sumOf r ≡ wide (pos (sumOf s) +ℤ amountOf e (shiftsOf (now (to .entry)) (now (from .entry)))) ⌝ }
+    ensures { λ r. ⌜ sumOf r ≡ wide (pos (sumOf s) +ℤ amountOf e (addressShifts (now (to .entry)) (now (from .entry)))) ⌝ }
 {
     let kind = e.amount;
     let k = e.symbol as usize;
@@ -108,7 +108,7 @@ fn add_to_cell(
 )
     requires { ⌜ (length (now to) ≡ 33) × (length (now from) ≡ 33) × (e .symbol < 33) × (e .name .section .0 < 33) ⌝ }
     requires { ⌜ (x < length (now low)) × (x < length (now high)) ⌝ }
-    ensures { λ _. ⌜ AddOut (amountOf e (shiftsOf (now (to .entry)) (now (from .entry)))) x (now (low .entry)) (now (high .entry)) (now (low .exit)) (now (high .exit)) ⌝ }
+    ensures { λ _. ⌜ AddOut (amountOf e (addressShifts (now (to .entry)) (now (from .entry)))) x (now (low .entry)) (now (high .entry)) (now (low .exit)) (now (high .exit)) ⌝ }
 {
     let old = Sum {
         high: high[x],
@@ -134,7 +134,7 @@ fn add_one(
 )
     requires { ⌜ PartReady (now file) t s × (i < s .count) × (g ≡ fieldIn (now file) (t .format) s i) ⌝ }
     requires { ⌜ (length (now to) ≡ 33) × (length (now from) ≡ 33) × (length (now high) ≡ length (now low)) ⌝ }
-    ensures { λ _. ⌜ StepOut (objectEntry (now (file .entry)) t s) (shiftsOf (now (to .entry)) (now (from .entry))) base i (now (low .entry)) (now (high .entry)) (now (low .exit)) (now (high .exit)) ⌝ }
+    ensures { λ _. ⌜ StepOut (objectEntry (now (file .entry)) t s) (addressShifts (now (to .entry)) (now (from .entry))) base i (now (low .entry)) (now (high .entry)) (now (low .exit)) (now (high .exit)) ⌝ }
 {
     let n = low.len() as u64;
     let x = cell_of(g, base, n);
@@ -200,7 +200,7 @@ fn add_all(
 ) -> u64
     requires { ⌜ PartReady (now file) t s × (base + 4 * length (now low) ≤ limit) ⌝ }
     requires { ⌜ (length (now to) ≡ 33) × (length (now from) ≡ 33) × (length (now high) ≡ length (now low)) ⌝ }
-    ensures { λ r. ⌜ AllOut (objectEntry (now (file .entry)) t s) (shiftsOf (now (to .entry)) (now (from .entry))) (s .count) base (length (now (low .entry))) r (now (low .exit)) (now (high .exit)) ⌝ }
+    ensures { λ r. ⌜ AllOut (objectEntry (now (file .entry)) t s) (addressShifts (now (to .entry)) (now (from .entry))) (s .count) base (length (now (low .entry))) r (now (low .exit)) (now (high .exit)) ⌝ }
 {
     clear_low(low);
     clear_high(high);
@@ -293,7 +293,7 @@ fn sweep(
 ) -> u64
     requires { ⌜ PartReady (now file) t s × (0 < s .size → origin + s .size ≤ length (now bytes)) ⌝ }
     requires { ⌜ (length (now to) ≡ 33) × (length (now from) ≡ 33) × (length (now low) ≡ 65536) × (length (now high) ≡ 65536) ⌝ }
-    ensures { λ r. ⌜ FirstOut (objectEntry (now (file .entry)) t s) (s .count) (shiftsOf (now (to .entry)) (now (from .entry))) (wordFrom (now (bytes .entry)) origin s) r ⌝ }
+    ensures { λ r. ⌜ FirstOut (objectEntry (now (file .entry)) t s) (s .count) (addressShifts (now (to .entry)) (now (from .entry))) (wordFrom (now (bytes .entry)) origin s) r ⌝ }
 {
     let f = t.format;
     let end = s.place + s.size;
@@ -332,7 +332,7 @@ fn sweep_windows(
 ) -> u64
     requires { ⌜ PartReady (now file) t s × (0 < s .size → origin + s .size ≤ length (now bytes)) ⌝ }
     requires { ⌜ (length (now to) ≡ 33) × (length (now from) ≡ 33) ⌝ }
-    ensures { λ r. ⌜ FirstOut (objectEntry (now (file .entry)) t s) (s .count) (shiftsOf (now (to .entry)) (now (from .entry))) (wordFrom (now (bytes .entry)) origin s) r ⌝ }
+    ensures { λ r. ⌜ FirstOut (objectEntry (now (file .entry)) t s) (s .count) (addressShifts (now (to .entry)) (now (from .entry))) (wordFrom (now (bytes .entry)) origin s) r ⌝ }
 {
     let mut low = low_space();
     let mut high = high_space();
@@ -370,7 +370,7 @@ fn start_word(
 ) -> Sum
     requires { ⌜ PartReady (now file) t s × (i < s .count) × (isBranch (fieldIn (now file) (t .format) s i .kind) ≡ true) ⌝ }
     requires { ⌜ (length (now to) ≡ 33) × (length (now from) ≡ 33) × (0 < s .size → origin + s .size ≤ length (now bytes)) ⌝ }
-    ensures { λ r. ⌜ sumOf r ≡ wide (branchValue (wordFrom (now (bytes .entry)) origin s (objectEntry (now (file .entry)) t s i .field .offset)) +ℤ amountOf (objectEntry (now (file .entry)) t s i) (shiftsOf (now (to .entry)) (now (from .entry)))) ⌝ }
+    ensures { λ r. ⌜ sumOf r ≡ wide (branchValue (wordFrom (now (bytes .entry)) origin s (objectEntry (now (file .entry)) t s i .field .offset)) +ℤ amountOf (objectEntry (now (file .entry)) t s i) (addressShifts (now (to .entry)) (now (from .entry)))) ⌝ }
 {
     let e = object_entry::entry_at(file, t, s, i);
     let g = e.field;
@@ -390,7 +390,7 @@ fn continue_word(
     sum: Sum,
 ) -> Sum
     requires { ⌜ PartReady (now file) t s × (i < s .count) × (length (now to) ≡ 33) × (length (now from) ≡ 33) ⌝ }
-    ensures { λ r. ⌜ sumOf r ≡ wide (pos (sumOf sum) +ℤ amountOf (objectEntry (now (file .entry)) t s i) (shiftsOf (now (to .entry)) (now (from .entry)))) ⌝ }
+    ensures { λ r. ⌜ sumOf r ≡ wide (pos (sumOf sum) +ℤ amountOf (objectEntry (now (file .entry)) t s i) (addressShifts (now (to .entry)) (now (from .entry)))) ⌝ }
 {
     let e = object_entry::entry_at(file, t, s, i);
     add_amount(sum, e, to, from)
@@ -424,8 +424,8 @@ fn step_order(
 ) -> Run
     requires { ⌜ PartReady (now file) t s × (i < s .count) × (0 < s .size → origin + s .size ≤ length (now bytes)) ⌝ }
     requires { ⌜ (length (now to) ≡ 33) × (length (now from) ≡ 33) ⌝ }
-    requires { ⌜ Ascended (objectEntry (now file) t s) (shiftsOf (now to) (now from)) (wordFrom (now bytes) origin s) (s .count) i run ⌝ }
-    ensures { λ r. ⌜ (r .ascending ≡ true → Ascended (objectEntry (now (file .entry)) t s) (shiftsOf (now (to .entry)) (now (from .entry))) (wordFrom (now (bytes .entry)) origin s) (s .count) (i + 1) r) ⌝ }
+    requires { ⌜ Ascended (objectEntry (now file) t s) (addressShifts (now to) (now from)) (wordFrom (now bytes) origin s) (s .count) i run ⌝ }
+    ensures { λ r. ⌜ (r .ascending ≡ true → Ascended (objectEntry (now (file .entry)) t s) (addressShifts (now (to .entry)) (now (from .entry))) (wordFrom (now (bytes .entry)) origin s) (s .count) (i + 1) r) ⌝ }
 {
     let f = t.format;
     let g = section_relocation::field_in(file, f, s, i);
@@ -465,7 +465,7 @@ fn begin(
 ) -> Run
     requires { ⌜ PartReady (now file) t s × (k < s .count) × FirstBranch (fieldIn (now file) (t .format) s) (s .count) k ⌝ }
     requires { ⌜ (length (now to) ≡ 33) × (length (now from) ≡ 33) × (0 < s .size → origin + s .size ≤ length (now bytes)) ⌝ }
-    ensures { λ r. ⌜ Ascended (objectEntry (now (file .entry)) t s) (shiftsOf (now (to .entry)) (now (from .entry))) (wordFrom (now (bytes .entry)) origin s) (s .count) (k + 1) r ⌝ }
+    ensures { λ r. ⌜ Ascended (objectEntry (now (file .entry)) t s) (addressShifts (now (to .entry)) (now (from .entry))) (wordFrom (now (bytes .entry)) origin s) (s .count) (k + 1) r ⌝ }
 {
     let f = t.format;
     let g = section_relocation::field_in(file, f, s, k);
@@ -490,7 +490,7 @@ fn by_order(
 ) -> OrderAnswer
     requires { ⌜ PartReady (now file) t s × (0 < s .size → origin + s .size ≤ length (now bytes)) ⌝ }
     requires { ⌜ (length (now to) ≡ 33) × (length (now from) ≡ 33) ⌝ }
-    ensures { λ r. ⌜ (r .known ≡ true → FirstOut (objectEntry (now (file .entry)) t s) (s .count) (shiftsOf (now (to .entry)) (now (from .entry))) (wordFrom (now (bytes .entry)) origin s) (r .first)) ⌝ }
+    ensures { λ r. ⌜ (r .known ≡ true → FirstOut (objectEntry (now (file .entry)) t s) (s .count) (addressShifts (now (to .entry)) (now (from .entry))) (wordFrom (now (bytes .entry)) origin s) (r .first)) ⌝ }
 {
     let n = s.count;
     let f = t.format;
@@ -533,7 +533,7 @@ pub fn first_out(
 ) -> u64
     requires { ⌜ PartReady (now file) t s × (0 < s .size → origin + s .size ≤ length (now bytes)) ⌝ }
     requires { ⌜ (length (now to) ≡ 33) × (length (now from) ≡ 33) ⌝ }
-    ensures { λ r. ⌜ FirstOut (objectEntry (now (file .entry)) t s) (s .count) (shiftsOf (now (to .entry)) (now (from .entry))) (wordFrom (now (bytes .entry)) origin s) r ⌝ }
+    ensures { λ r. ⌜ FirstOut (objectEntry (now (file .entry)) t s) (s .count) (addressShifts (now (to .entry)) (now (from .entry))) (wordFrom (now (bytes .entry)) origin s) r ⌝ }
 {
     let a = by_order(file, t, s, to, from, bytes, origin);
     if a.known {

@@ -3,7 +3,7 @@ use Rattle.branch_range.proofs.Known.{part-readable, part-small}
 use Rattle.branch_range.specs.Order.{Ascended}
 use Rattle.branch_range.specs.Range.{wordFrom}
 use Rattle.section_overlap.proofs.Rule.{no-true}
-use Rattle.object_plan.specs.Shifts.{shiftsOf}
+use Rattle.object_plan.specs.Shifts.{addressShifts}
 use Rattle.object_entry.proofs.Entries.{entry-field}
 use Rattle.object_entry.specs.Entry.{objectEntry}
 use borrow.Author.Tests.{not-false}
@@ -15,7 +15,7 @@ use Rattle.branch_range.proofs.by_order.Statement.{statement}
 use Rattle.branch_range.proofs.by_order.Tie as tie
 
 abbrev Inv-loop : tie.InvT-loop
-Inv-loop file t s to from bytes origin n k run₀ i₀ run i = (i ≤ n) × (n ≡ s .count) × Ascended (objectEntry file t s) (shiftsOf to from) (wordFrom bytes origin s) (s .count) i run
+Inv-loop file t s to from bytes origin n k run₀ i₀ run i = (i ≤ n) × (n ≡ s .count) × Ascended (objectEntry file t s) (addressShifts to from) (wordFrom bytes origin s) (s .count) i run
 
 abbrev μ-loop : tie.MeasureT-loop
 μ-loop file t s to from bytes origin n k run₀ i₀ run i = n - i

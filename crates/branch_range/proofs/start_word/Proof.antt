@@ -1,6 +1,6 @@
 use borrow.Author.Needs.{needs}
 use Rattle.object_entry.specs.Entry.{objectEntry}
-use Rattle.object_plan.specs.Shifts.{shiftsOf}
+use Rattle.object_plan.specs.Shifts.{addressShifts}
 use Rattle.branch_range.specs.Range.{wordFrom}
 use Rattle.branch_range.proofs.Known.{own-good, part-numbers, part-word}
 use Rattle.branch_range.proofs.Amounts.{word-start}
@@ -20,7 +20,7 @@ add-amount-requires : tie.Need-add-amount-requires
 add-amount-requires c κs = let a = c .before .before .before .before .before .before .before .before .args in let p = c .before .before .before .before .before .before .before .before .pre in let n = part-numbers (a .file .now) (a .t) (a .s) (p .0 .0) (a .i) (p .0 .1) (c .before .before .before .entry-at .ensures) in (p .1 .0, p .1 .1, n .0, n .1)
 
 returns : tie.Need-returns
-returns c = let a = c .before .before .before .before .before .before .before .before .before .args in word-start (wordFrom (a .bytes .now) (a .origin) (a .s)) (shiftsOf (a .to .now) (a .from .now)) _ _ (objectEntry (a .file .now) (a .t) (a .s) (a .i)) (c .before .before .before .before .entry-at .ensures) (c .before .before .read-word .ensures) (c .before .value-of .ensures) (c .add-amount .ensures)
+returns c = let a = c .before .before .before .before .before .before .before .before .before .args in word-start (wordFrom (a .bytes .now) (a .origin) (a .s)) (addressShifts (a .to .now) (a .from .now)) _ _ (objectEntry (a .file .now) (a .t) (a .s) (a .i)) (c .before .before .before .before .entry-at .ensures) (c .before .before .read-word .ensures) (c .before .value-of .ensures) (c .add-amount .ensures)
 
 pub start-word-spec : {M : Type 1} → statement M
 start-word-spec =

@@ -2,7 +2,7 @@ use Rattle.branch_range.proofs.CellLaws.{sweep-none, sweep-turn, sweep-
 use Rattle.branch_range.proofs.Known.{part-readable, part-words, part-small}
 use Rattle.branch_range.specs.Cells.{SweepOut}
 use Rattle.branch_range.specs.Range.{wordFrom}
-use Rattle.object_plan.specs.Shifts.{shiftsOf}
+use Rattle.object_plan.specs.Shifts.{addressShifts}
 use Rattle.object_entry.proofs.Entries.{entry-field}
 use Rattle.object_entry.specs.Entry.{objectEntry}
 use Prim.Native.Nat.{_+_, _-_, _*_}
@@ -13,7 +13,7 @@ use Rattle.branch_range.proofs.sweep.Statement.{statement}
 use Rattle.branch_range.proofs.sweep.Tie as tie
 
 abbrev Inv-loop : tie.InvT-loop
-Inv-loop file t s to from bytes origin low₀ high₀ f end limit first₀ base₀ low high first base = (length low ≡ 65536) × (length high ≡ 65536) × (f ≡ t .format) × (end ≡ s .place + s .size) × (limit ≡ end + 4 * 65536) × SweepOut (objectEntry file t s) (s .count) (shiftsOf to from) (wordFrom bytes origin s) base first
+Inv-loop file t s to from bytes origin low₀ high₀ f end limit first₀ base₀ low high first base = (length low ≡ 65536) × (length high ≡ 65536) × (f ≡ t .format) × (end ≡ s .place + s .size) × (limit ≡ end + 4 * 65536) × SweepOut (objectEntry file t s) (s .count) (addressShifts to from) (wordFrom bytes origin s) base first
 
 abbrev μ-loop : tie.MeasureT-loop
 μ-loop file t s to from bytes origin low₀ high₀ f end limit first₀ base₀ low high first base = end - base
