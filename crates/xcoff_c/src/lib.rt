@@ -29,8 +29,11 @@ ghost use Rattle.line_lookup.specs.Lookup.{countReport, lineReport};
 ghost use Rattle.line_table.specs.Table.{lineTableCheck, linesAfter};
 ghost use Rattle.object.specs.Check.{objectReport};
 ghost use Rattle.object_history.specs.Call.{callCheck as objectCallCheck, effect as objectEffect};
+ghost use Rattle.object_history.specs.Book.{bookImages as objectImages, bookAfter as objectBook};
 ghost use Rattle.object_plan.specs.Object.{objectOf};
 ghost use Rattle.object_table.specs.Table.{sectionRowsCheck, sectionRowsAfter, entryRowsCheck, entryRowsAfter};
+ghost use Rattle.object_replay.specs.Script.{callsOf as objectCallsOf};
+ghost use Rattle.object_replay.specs.Answer.{replayAnswer as objectReplayAnswer, reportOfReplay as reportOfObjectReplay};
 ghost use Rattle.salvage.specs.Answer.{countAnswer, salvageAnswer, copyAfter, reportAfter, reportOfCount};
 ghost use Rattle.address_book.specs.Book.{key};
 ghost use Rattle.address_book.specs.Call.{Call, checkOf, numberOf, memoryIn, reportOfNumber};
@@ -51,6 +54,7 @@ use line_lookup::LineReport;
 use loadable::ModuleReport;
 use lookup::LoaderSymbolReport;
 use object::ObjectReport;
+use object_replay::ObjectReplayReport;
 use offset::RangeReport;
 use refusal::Head;
 use replay::ReplayReport;
@@ -471,6 +475,19 @@ pub extern "C" fn xcoff_move_object(
     ensures image { λ _. ⌜ now (buffer .exit) ≡ objectEffect (objectOf (now (file .entry))) (move (now (from .entry)) (now (to .entry))) (now (buffer .entry)) ⌝ }
 {
     offset::report_head(file, object_image::move_object(file, from, to, buffer))
+}
+
+// Runs a list of builds and moves of an object file: 0 and a plan, or another number and two plans, a plan being how many addresses it has, and those.
+#[no_mangle]
+pub extern "C" fn xcoff_replay_object(
+    file: &[u8],
+    script: &[u64],
+    buffer: &mut [u8],
+) -> ObjectReplayReport
+    ensures answer { λ r. ⌜ r ≡ reportOfObjectReplay (now (file .entry)) (objectReplayAnswer (objectOf (now (file .entry))) (objectCallsOf (now (script .entry))) (now (buffer .entry))) ⌝ }
+    ensures image { λ _. ⌜ now (buffer .exit) ≡ objectImages (objectOf (now (file .entry))) (objectBook (objectOf (now (file .entry))) (objectCallsOf (now (script .entry))) (now (buffer .entry))) ⌝ }
+{
+    object_replay::report_object_replay(file, object_replay::replay_object(file, script, buffer))
 }
 
 // How many changes salvaging the symbol table of a file makes.
