@@ -9,7 +9,7 @@ use native.Mathlib.Omega.{arith}
 use lib.ListN.{length, getD, set, length-set}
 use lib.Seq.{getD-set-same, getD-set-other}
 use lib.Dec.{leb, eqb}
-use lib.IntN.{ℤ, pos, negℤ, _+ℤ_, _-ℤ_, +ℤ-idl, +ℤ-comm, +ℤ-assoc}
+use lib.IntN.{ℤ, pos, _+ℤ_, +ℤ-idl, +ℤ-comm}
 use borrow.Author.Tests.{le-leb, lt-leb, eq-eqb, ne-eqb, leb-true, eqb-true, not-true, not-false}
 use Rattle.word.proofs.Test.{and-first, and-second}
 use Rattle.update.specs.Update.{remainder}
@@ -21,7 +21,7 @@ use Rattle.branch.proofs.Wide.{same-eqb, wide-add}
 use Rattle.object_history.specs.declared.ObjectEntry.{ObjectEntry}
 use Rattle.object_history.specs.Entry.{amountOf}
 use Rattle.object_history.specs.Range.{isBranch, isOn}
-use Rattle.section_overlap.proofs.Rule.{no-true, no-false}
+use Rattle.section_overlap.proofs.Rule.{no-true}
 use Rattle.branch_range.specs.Range.{sumOn, isOut, FirstOut}
 use Rattle.branch_range.specs.Cells.{Words, Small, isInCell, CellOut, cellOf, AddOut, Zeros, cellSum, CellsAre, StepOut, LowerOut, Skipped, AllOut, OutBy, JudgeOut, ScanOut, SweepOut}
 use Rattle.branch_range.proofs.Sums.{word-told}

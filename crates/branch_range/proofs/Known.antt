@@ -1,19 +1,18 @@
 -- What an accepted section leaves known of its entries. Assumes nothing.
 use mathlib.Core.Path.{_≡_, refl, sym, _∙_, ap}
 use mathlib.Core.Logic.{⊎-elim}
-use mathlib.Core.Bool.{Bool, true, false}
+use mathlib.Core.Bool.{true}
 use mathlib.Core.List.{List}
 use Prim.Native.Nat.{ℕ, _+_, _-_, _*_, _^_, _≤_, _<_}
 use native.Mathlib.Decide.{decLt}
 use native.Mathlib.Omega.{arith}
 use lib.ListN.{length, getD}
-use lib.IntN.{ℤ, pos, negℤ, natAbs, _-ℤ_}
+use lib.IntN.{pos, negℤ, natAbs}
 use Rattle.refusal.specs.declared.Verdict.the-variants.{Accepted}
 use Rattle.format.specs.declared.Format.{Format}
 use Rattle.format.specs.declared.Format.the-variants.{Xcoff32, Xcoff64}
 use Rattle.header.proofs.Accepted.{opened-inside}
 use Rattle.symbol.specs.declared.Tables.{Tables}
-use Rattle.symbol.specs.Entry.{OpenTables}
 use Rattle.table_kind.specs.declared.TableKind.the-variants.{Relocations}
 use Rattle.table_kind.specs.Kind.{entryLength}
 use Rattle.field_kind.specs.declared.FieldKind.{FieldKind}
@@ -21,6 +20,7 @@ use Rattle.field_kind.specs.declared.FieldKind.the-variants.{Nothing, Four, Eig
 use Rattle.field_kind.specs.declared.ObjectField.{ObjectField}
 use Rattle.field_kind.specs.Field.{bytesIn}
 use Rattle.branch.proofs.Wide.{abs-add, abs-neg}
+use Rattle.object_history.specs.declared.ObjectEntry.{ObjectEntry}
 use Rattle.object_history.specs.Range.{isBranch}
 use Rattle.section_relocation.specs.declared.ObjectSection.{ObjectSection}
 use Rattle.section_relocation.specs.Entry.{entryIn, isHeld, fieldIn}
@@ -30,7 +30,7 @@ use Rattle.section_overlap.proofs.Rule.{no-true, no-overlap}
 use Rattle.object_entry.specs.Entry.{ownAt, objectEntry}
 use Rattle.object_entry.proofs.Entries.{held, symbol-few, entry-field, entry-name, entry-symbol}
 use Rattle.section_entries.proofs.Accepted.{own-accepted, none-overlaps}
-use Rattle.object_plan.specs.Shifts.{shiftsOf}
+use Rattle.object_plan.specs.Shifts.{addressShifts}
 use Rattle.object_plan.specs.Ready.{PartReady}
 use Rattle.branch_range.specs.Cells.{Words, Small}
 
@@ -96,23 +96,38 @@ module _ (file : List ℕ) (t : Tables) (s : ObjectSection) (k : PartReady file 
     apart = λ i j l m. rw (entry-field file t s i, entry-field file t s j) (same-word i j l m);
   }
 
+  -- the word of an entry that is a branch
+  pub part-word : (i : ℕ) (e : ObjectEntry) (origin len : ℕ) → i < s .count → e ≡ objectEntry file t s i → (0 < s .size → origin + s .size ≤ len) → isBranch (g i .kind) ≡ true
+      → (s .place ≤ e .field .offset) × (origin + (e .field .offset - s .place) + 4 ≤ len)
+  part-word i e origin len l q h b =
+      let p : e .field ≡ g i = ap (λ (x : ObjectEntry). x .field) q ∙ entry-field file t s i in
+      word-inside file (t .format) s (s .count) i (e .field) origin len (part-readable (s .count) (omega arith)) l p h (ap (λ (x : ObjectField). isBranch (x .kind)) p ∙ b)
+
   -- ---- numbers
 
-  pub part-few : s .count < 2 ^ 28
+  part-few : s .count < 2 ^ 28
   part-few = let h = k .entries .ready in table-few (t .format) (s .table .0) (s .count) (length file) (h .table) (h .small)
 
   sections-few : t .nscns ≤ 32
   sections-few = rw (k .entries .tables .tables) (opened-inside file (k .entries .tables .accepted) .few)
 
-  pub part-symbol : (i : ℕ) → i < s .count → objectEntry file t s i .symbol < 33
+  part-symbol : (i : ℕ) → i < s .count → objectEntry file t s i .symbol < 33
   part-symbol i l = omega (arith, entry-symbol file t s i, symbol-few file t s i (own-good i l), sections-few)
 
-  pub part-section : (i : ℕ) → objectEntry file t s i .name .section .0 < 33
+  part-section : (i : ℕ) → objectEntry file t s i .name .section .0 < 33
   part-section i = omega (arith, ap (λ x. x .section .0) (entry-name file t s i), k .number)
+
+  -- the shifts that an entry reads are among those held
+  pub part-numbers : (i : ℕ) {e : ObjectEntry} → i < s .count → e ≡ objectEntry file t s i → (e .symbol < 33) × (e .name .section .0 < 33)
+  part-numbers i l q = rw q (part-symbol i l, part-section i)
 
 -- ---- shifts
 
 -- of numbers of 64 bits
-pub shifts-small : (to from : List ℕ) → ((k : ℕ) → getD to k 0 < 2 ^ 64) → ((k : ℕ) → getD from k 0 < 2 ^ 64) → (k : ℕ) → natAbs (shiftsOf to from k) ≤ 2 ^ 65
-unfolding shiftsOf
+shifts-small : (to from : List ℕ) → ((k : ℕ) → getD to k 0 < 2 ^ 64) → ((k : ℕ) → getD from k 0 < 2 ^ 64) → (k : ℕ) → natAbs (addressShifts to from k) ≤ 2 ^ 65
+unfolding addressShifts
 shifts-small to from a b k = omega (arith, a k, b k, abs-neg (pos (getD from k 0)), abs-add (pos (getD to k 0)) (negℤ (pos (getD from k 0))))
+
+-- a section's sums are small
+pub part-small : (file : List ℕ) (t : Tables) (s : ObjectSection) (to from : List ℕ) → PartReady file t s → ((k : ℕ) → getD to k 0 < 2 ^ 64) → ((k : ℕ) → getD from k 0 < 2 ^ 64) → Small (s .count) (addressShifts to from)
+part-small file t s to from k a b = record { few = part-few file t s k; shifts = shifts-small to from a b }

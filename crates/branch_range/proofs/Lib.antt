@@ -3,3 +3,4 @@ pub mod Sums
 pub mod Known
 pub mod Amounts
 pub mod CellLaws
+pub mod Order

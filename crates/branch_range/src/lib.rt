@@ -1,20 +1,21 @@
-// RANGE over a section's own table: the first entry on a branch word whose exact sum is out of range. The sums are held for a window of the section at a time, in
-// any order of the entries.
+// RANGE over a section's own table: the first entry on a branch word whose exact sum is out of range. Where the branches ascend, one sum is held at a time; otherwise
+// the sums of a window of the section.
 ghost use mathlib.Core.Path.{_≡_};
 ghost use mathlib.Core.Bool.{true};
 ghost use Prim.Native.Nat.{ℕ, _+_, _-_, _*_, _≤_, _<_};
 ghost use lib.ListN.{length};
 ghost use lib.IntN.{pos, _+ℤ_, _-ℤ_};
-ghost use Rattle.branch.specs.Branch.{sumOf, wide};
-ghost use Rattle.object_history.specs.Entry.{amountBy, amountOf};
+ghost use Rattle.branch.specs.Branch.{branchValue, sumOf, wide};
+ghost use Rattle.object_history.specs.Entry.{amountOf};
 ghost use Rattle.object_history.specs.Range.{isBranch};
 ghost use Rattle.section_relocation.specs.Entry.{fieldIn};
 ghost use Rattle.section_overlap.specs.Overlap.{Readable};
 ghost use Rattle.object_entry.specs.Entry.{objectEntry};
-ghost use Rattle.object_plan.specs.Shifts.{shiftsOf};
+ghost use Rattle.object_plan.specs.Shifts.{addressShifts};
 ghost use Rattle.object_plan.specs.Ready.{PartReady};
 ghost use Rattle.branch_range.specs.Range.{FirstOut, wordFrom};
-ghost use Rattle.branch_range.specs.Cells.{Small, CellOut, AddOut, Zeros, StepOut, LowerOut, AllOut, JudgeOut, ScanOut};
+ghost use Rattle.branch_range.specs.Cells.{CellOut, AddOut, Zeros, StepOut, LowerOut, AllOut, JudgeOut, ScanOut};
+ghost use Rattle.branch_range.specs.Order.{FirstBranch, Ascended, closed};
 use branch::Sum;
 use field_kind::FieldKind;
 use field_kind::ObjectField;
@@ -23,6 +24,21 @@ use object_history::AmountKind;
 use object_history::ObjectEntry;
 use section_relocation::ObjectSection;
 use symbol::Tables;
+
+// What is known of entries whose branches ascend: the last word, the first entry on it and its sum so far; and the first entry out of range on a word before
+// it, or the number of entries.
+struct Run {
+    ascending: bool,
+    at: u64,
+    start: u64,
+    first: u64,
+    sum: Sum,
+}
+
+struct OrderAnswer {
+    known: bool,
+    first: u64,
+}
 
 fn is_branch(k: FieldKind) -> bool
     ensures { λ r. ⌜ r ≡ isBranch k ⌝ }
@@ -44,23 +60,19 @@ fn add_shift(s: Sum, a: u64, b: u64) -> Sum
 }
 
 // A sum with what an entry adds, by the shifts of its symbol and of its own section.
-fn add_amount(
-    s: Sum,
-    kind: AmountKind,
-    symbol: u64,
-    section: u64,
-    to: &[u64],
-    from: &[u64],
-) -> Sum
-    requires { ⌜ (length (now to) ≡ 33) × (length (now from) ≡ 33) × (symbol < 33) × (section < 33) ⌝ }
-    ensures { λ r. ⌜ sumOf r ≡ wide (pos (sumOf s) +ℤ amountBy kind (shiftsOf (now (to .entry)) (now (from .entry)) symbol) (shiftsOf (now (to .entry)) (now (from .entry)) section)) ⌝ }
+fn add_amount(s: Sum, e: ObjectEntry, to: &[u64], from: &[u64]) -> Sum
+    requires { ⌜ (length (now to) ≡ 33) × (length (now from) ≡ 33) × (e .symbol < 33) × (e .name .section .0 < 33) ⌝ }
+    ensures { λ r. ⌜ sumOf r ≡ wide (pos (sumOf s) +ℤ amountOf e (addressShifts (now (to .entry)) (now (from .entry)))) ⌝ }
 {
-    let k = symbol as usize;
+    let kind = e.amount;
+    let k = e.symbol as usize;
     match kind {
         AmountKind::Plus => add_shift(s, to[k], from[k]),
         AmountKind::Minus => add_shift(s, from[k], to[k]),
         AmountKind::Relative => {
-            let own = section as usize;
+            let name = e.name;
+            let section = name.section;
+            let own = section.0 as usize;
             let x = add_shift(s, to[k], from[k]);
             add_shift(x, from[own], to[own])
         }
@@ -96,16 +108,13 @@ fn add_to_cell(
 )
     requires { ⌜ (length (now to) ≡ 33) × (length (now from) ≡ 33) × (e .symbol < 33) × (e .name .section .0 < 33) ⌝ }
     requires { ⌜ (x < length (now low)) × (x < length (now high)) ⌝ }
-    ensures { λ _. ⌜ AddOut (amountOf e (shiftsOf (now (to .entry)) (now (from .entry)))) x (now (low .entry)) (now (high .entry)) (now (low .exit)) (now (high .exit)) ⌝ }
+    ensures { λ _. ⌜ AddOut (amountOf e (addressShifts (now (to .entry)) (now (from .entry)))) x (now (low .entry)) (now (high .entry)) (now (low .exit)) (now (high .exit)) ⌝ }
 {
-    let kind = e.amount;
-    let name = e.name;
-    let section = name.section;
     let old = Sum {
         high: high[x],
         low: low[x],
     };
-    let new = add_amount(old, kind, e.symbol, section.0, to, from);
+    let new = add_amount(old, e, to, from);
     low[x] = new.low;
     high[x] = new.high;
 }
@@ -125,7 +134,7 @@ fn add_one(
 )
     requires { ⌜ PartReady (now file) t s × (i < s .count) × (g ≡ fieldIn (now file) (t .format) s i) ⌝ }
     requires { ⌜ (length (now to) ≡ 33) × (length (now from) ≡ 33) × (length (now high) ≡ length (now low)) ⌝ }
-    ensures { λ _. ⌜ StepOut (objectEntry (now (file .entry)) t s) (shiftsOf (now (to .entry)) (now (from .entry))) base i (now (low .entry)) (now (high .entry)) (now (low .exit)) (now (high .exit)) ⌝ }
+    ensures { λ _. ⌜ StepOut (objectEntry (now (file .entry)) t s) (addressShifts (now (to .entry)) (now (from .entry))) base i (now (low .entry)) (now (high .entry)) (now (low .exit)) (now (high .exit)) ⌝ }
 {
     let n = low.len() as u64;
     let x = cell_of(g, base, n);
@@ -191,7 +200,7 @@ fn add_all(
 ) -> u64
     requires { ⌜ PartReady (now file) t s × (base + 4 * length (now low) ≤ limit) ⌝ }
     requires { ⌜ (length (now to) ≡ 33) × (length (now from) ≡ 33) × (length (now high) ≡ length (now low)) ⌝ }
-    ensures { λ r. ⌜ AllOut (objectEntry (now (file .entry)) t s) (shiftsOf (now (to .entry)) (now (from .entry))) (s .count) base (length (now (low .entry))) r (now (low .exit)) (now (high .exit)) ⌝ }
+    ensures { λ r. ⌜ AllOut (objectEntry (now (file .entry)) t s) (addressShifts (now (to .entry)) (now (from .entry))) (s .count) base (length (now (low .entry))) r (now (low .exit)) (now (high .exit)) ⌝ }
 {
     clear_low(low);
     clear_high(high);
@@ -206,6 +215,14 @@ fn add_all(
         i += 1;
     }
     next
+}
+
+// The word at an offset of the buffer, in bytes that hold those of the section from `origin` on.
+fn read_word(bytes: &[u8], origin: u64, s: ObjectSection, offset: u64) -> u32
+    requires { ⌜ (s .place ≤ offset) × (origin + (offset - s .place) + 4 ≤ length (now bytes)) ⌝ }
+    ensures { λ r. ⌜ r ≡ wordFrom (now (bytes .entry)) origin s offset ⌝ }
+{
+    word::get32(bytes, (origin + (offset - s.place)) as usize)
 }
 
 // Whether a field is a branch in the window from `base` whose word and cell together are out of range.
@@ -227,7 +244,7 @@ fn is_out(
         return false;
     }
     let x = c as usize;
-    let v = word::get32(bytes, (origin + (g.offset - s.place)) as usize);
+    let v = read_word(bytes, origin, s, g.offset);
     let old = Sum {
         high: high[x],
         low: low[x],
@@ -276,7 +293,7 @@ fn sweep(
 ) -> u64
     requires { ⌜ PartReady (now file) t s × (0 < s .size → origin + s .size ≤ length (now bytes)) ⌝ }
     requires { ⌜ (length (now to) ≡ 33) × (length (now from) ≡ 33) × (length (now low) ≡ 65536) × (length (now high) ≡ 65536) ⌝ }
-    ensures { λ r. ⌜ FirstOut (objectEntry (now (file .entry)) t s) (s .count) (shiftsOf (now (to .entry)) (now (from .entry))) (wordFrom (now (bytes .entry)) origin s) r ⌝ }
+    ensures { λ r. ⌜ FirstOut (objectEntry (now (file .entry)) t s) (s .count) (addressShifts (now (to .entry)) (now (from .entry))) (wordFrom (now (bytes .entry)) origin s) r ⌝ }
 {
     let f = t.format;
     let end = s.place + s.size;
@@ -303,8 +320,208 @@ fn high_space() -> [u32; 65536]
     [0; 65536]
 }
 
+// The same as `first_out`, by the windows alone. The cells take 768 KiB of the frame.
+fn sweep_windows(
+    file: &[u8],
+    t: Tables,
+    s: ObjectSection,
+    to: &[u64],
+    from: &[u64],
+    bytes: &[u8],
+    origin: u64,
+) -> u64
+    requires { ⌜ PartReady (now file) t s × (0 < s .size → origin + s .size ≤ length (now bytes)) ⌝ }
+    requires { ⌜ (length (now to) ≡ 33) × (length (now from) ≡ 33) ⌝ }
+    ensures { λ r. ⌜ FirstOut (objectEntry (now (file .entry)) t s) (s .count) (addressShifts (now (to .entry)) (now (from .entry))) (wordFrom (now (bytes .entry)) origin s) r ⌝ }
+{
+    let mut low = low_space();
+    let mut high = high_space();
+    sweep(file, t, s, to, from, bytes, origin, &mut low, &mut high)
+}
+
+// The first branch of a table, or the number of its entries.
+fn first_branch(file: &[u8], f: Format, s: ObjectSection) -> u64
+    requires { ⌜ Readable (now file) f s (s .count) ⌝ }
+    ensures { λ r. ⌜ FirstBranch (fieldIn (now (file .entry)) f s) (s .count) r ⌝ }
+{
+    let n = s.count;
+    let mut i = 0;
+    while i < n {
+        let g = section_relocation::field_in(file, f, s, i);
+        let k = g.kind;
+        if is_branch(k) {
+            return i;
+        }
+        i += 1;
+    }
+    n
+}
+
+// The sum on the word of entry `i`, a branch, by its value and that entry.
+fn start_word(
+    file: &[u8],
+    t: Tables,
+    s: ObjectSection,
+    to: &[u64],
+    from: &[u64],
+    bytes: &[u8],
+    origin: u64,
+    i: u64,
+) -> Sum
+    requires { ⌜ PartReady (now file) t s × (i < s .count) × (isBranch (fieldIn (now file) (t .format) s i .kind) ≡ true) ⌝ }
+    requires { ⌜ (length (now to) ≡ 33) × (length (now from) ≡ 33) × (0 < s .size → origin + s .size ≤ length (now bytes)) ⌝ }
+    ensures { λ r. ⌜ sumOf r ≡ wide (branchValue (wordFrom (now (bytes .entry)) origin s (objectEntry (now (file .entry)) t s i .field .offset)) +ℤ amountOf (objectEntry (now (file .entry)) t s i) (addressShifts (now (to .entry)) (now (from .entry)))) ⌝ }
+{
+    let e = object_entry::entry_at(file, t, s, i);
+    let g = e.field;
+    let v = read_word(bytes, origin, s, g.offset);
+    let x = branch::value_of(v);
+    add_amount(x, e, to, from)
+}
+
+// A sum with entry `i` added.
+fn continue_word(
+    file: &[u8],
+    t: Tables,
+    s: ObjectSection,
+    to: &[u64],
+    from: &[u64],
+    i: u64,
+    sum: Sum,
+) -> Sum
+    requires { ⌜ PartReady (now file) t s × (i < s .count) × (length (now to) ≡ 33) × (length (now from) ≡ 33) ⌝ }
+    ensures { λ r. ⌜ sumOf r ≡ wide (pos (sumOf sum) +ℤ amountOf (objectEntry (now (file .entry)) t s i) (addressShifts (now (to .entry)) (now (from .entry)))) ⌝ }
+{
+    let e = object_entry::entry_at(file, t, s, i);
+    add_amount(sum, e, to, from)
+}
+
+// The first entry out of range of the words so far, the last included, or `n`.
+fn close(run: Run, n: u64) -> u64
+    ensures { λ r. ⌜ r ≡ closed run n ⌝ }
+{
+    if run.first < n {
+        return run.first;
+    }
+    let sum = run.sum;
+    if branch::is_in_range(sum) {
+        return n;
+    }
+    run.start
+}
+
+// Takes in entry `i`: a branch on the last word, or on one after it; on one before it, the order is not ascending.
+fn step_order(
+    file: &[u8],
+    t: Tables,
+    s: ObjectSection,
+    to: &[u64],
+    from: &[u64],
+    bytes: &[u8],
+    origin: u64,
+    i: u64,
+    run: Run,
+) -> Run
+    requires { ⌜ PartReady (now file) t s × (i < s .count) × (0 < s .size → origin + s .size ≤ length (now bytes)) ⌝ }
+    requires { ⌜ (length (now to) ≡ 33) × (length (now from) ≡ 33) ⌝ }
+    requires { ⌜ Ascended (objectEntry (now file) t s) (addressShifts (now to) (now from)) (wordFrom (now bytes) origin s) (s .count) i run ⌝ }
+    ensures { λ r. ⌜ (r .ascending ≡ true → Ascended (objectEntry (now (file .entry)) t s) (addressShifts (now (to .entry)) (now (from .entry))) (wordFrom (now (bytes .entry)) origin s) (s .count) (i + 1) r) ⌝ }
+{
+    let f = t.format;
+    let g = section_relocation::field_in(file, f, s, i);
+    let k = g.kind;
+    if !is_branch(k) {
+        return run;
+    }
+    let last = run.sum;
+    if g.offset == run.at {
+        return Run {
+            ascending: true,
+            at: run.at,
+            start: run.start,
+            first: run.first,
+            sum: continue_word(file, t, s, to, from, i, last),
+        };
+    }
+    Run {
+        ascending: run.at < g.offset,
+        at: g.offset,
+        start: i,
+        first: close(run, s.count),
+        sum: start_word(file, t, s, to, from, bytes, origin, i),
+    }
+}
+
+// What is known after the first branch, entry `k`.
+fn begin(
+    file: &[u8],
+    t: Tables,
+    s: ObjectSection,
+    to: &[u64],
+    from: &[u64],
+    bytes: &[u8],
+    origin: u64,
+    k: u64,
+) -> Run
+    requires { ⌜ PartReady (now file) t s × (k < s .count) × FirstBranch (fieldIn (now file) (t .format) s) (s .count) k ⌝ }
+    requires { ⌜ (length (now to) ≡ 33) × (length (now from) ≡ 33) × (0 < s .size → origin + s .size ≤ length (now bytes)) ⌝ }
+    ensures { λ r. ⌜ Ascended (objectEntry (now (file .entry)) t s) (addressShifts (now (to .entry)) (now (from .entry))) (wordFrom (now (bytes .entry)) origin s) (s .count) (k + 1) r ⌝ }
+{
+    let f = t.format;
+    let g = section_relocation::field_in(file, f, s, k);
+    Run {
+        ascending: true,
+        at: g.offset,
+        start: k,
+        first: s.count,
+        sum: start_word(file, t, s, to, from, bytes, origin, k),
+    }
+}
+
+// The first entry out of range where the branches ascend; otherwise it is not known.
+fn by_order(
+    file: &[u8],
+    t: Tables,
+    s: ObjectSection,
+    to: &[u64],
+    from: &[u64],
+    bytes: &[u8],
+    origin: u64,
+) -> OrderAnswer
+    requires { ⌜ PartReady (now file) t s × (0 < s .size → origin + s .size ≤ length (now bytes)) ⌝ }
+    requires { ⌜ (length (now to) ≡ 33) × (length (now from) ≡ 33) ⌝ }
+    ensures { λ r. ⌜ (r .known ≡ true → FirstOut (objectEntry (now (file .entry)) t s) (s .count) (addressShifts (now (to .entry)) (now (from .entry))) (wordFrom (now (bytes .entry)) origin s) (r .first)) ⌝ }
+{
+    let n = s.count;
+    let f = t.format;
+    let k = first_branch(file, f, s);
+    if n <= k {
+        return OrderAnswer {
+            known: true,
+            first: n,
+        };
+    }
+    let mut run = begin(file, t, s, to, from, bytes, origin, k);
+    let mut i = k + 1;
+    while i < n {
+        let a = step_order(file, t, s, to, from, bytes, origin, i, run);
+        if !a.ascending {
+            return OrderAnswer {
+                known: false,
+                first: n,
+            };
+        }
+        run = a;
+        i += 1;
+    }
+    OrderAnswer {
+        known: true,
+        first: close(run, n),
+    }
+}
+
 // The first entry of the section's table that is on a branch word out of range, or the number of entries. The section's bytes are those of
-// `bytes` from `origin` on. The cells take 768 KiB of the frame.
+// `bytes` from `origin` on. Branches in ascending order, as compilers write them, need no window.
 pub fn first_out(
     file: &[u8],
     t: Tables,
@@ -316,9 +533,11 @@ pub fn first_out(
 ) -> u64
     requires { ⌜ PartReady (now file) t s × (0 < s .size → origin + s .size ≤ length (now bytes)) ⌝ }
     requires { ⌜ (length (now to) ≡ 33) × (length (now from) ≡ 33) ⌝ }
-    ensures { λ r. ⌜ FirstOut (objectEntry (now (file .entry)) t s) (s .count) (shiftsOf (now (to .entry)) (now (from .entry))) (wordFrom (now (bytes .entry)) origin s) r ⌝ }
+    ensures { λ r. ⌜ FirstOut (objectEntry (now (file .entry)) t s) (s .count) (addressShifts (now (to .entry)) (now (from .entry))) (wordFrom (now (bytes .entry)) origin s) r ⌝ }
 {
-    let mut low = low_space();
-    let mut high = high_space();
-    sweep(file, t, s, to, from, bytes, origin, &mut low, &mut high)
+    let a = by_order(file, t, s, to, from, bytes, origin);
+    if a.known {
+        return a.first;
+    }
+    sweep_windows(file, t, s, to, from, bytes, origin)
 }

@@ -5,13 +5,13 @@ use Prim.Native.Nat.{ℕ, _+_, _%_, _^_, _<_}
 use native.Mathlib.Nat.{mod-mod}
 use lib.Dec.{lit<}
 use lib.ListN.{getD}
-use lib.IntN.{ℤ, pos, negℤ, _+ℤ_, _-ℤ_, +ℤ-comm, +ℤ-idl}
+use lib.IntN.{ℤ, pos, negℤ, _-ℤ_, +ℤ-comm, +ℤ-idl}
 use Rattle.update.specs.Update.{remainder}
 use Rattle.update.proofs.Remainder.{remainder-lt, remainder-small, remainder-cong, remainder-sub}
 use Rattle.object_history.specs.declared.AmountKind.{AmountKind}
 use Rattle.object_history.specs.declared.AmountKind.the-variants.{Plus, Minus, Relative}
 use Rattle.object_history.specs.Entry.{amountBy}
-use Rattle.object_plan.specs.Shifts.{shiftsOf}
+use Rattle.object_plan.specs.Shifts.{addressShifts}
 
 -- ---- modulo 2^64
 
@@ -33,8 +33,8 @@ wrapped-difference {r} a b x y h e p q =
 
 -- ---- shifts and amounts
 
-pub shift-told : (to from : List ℕ) (n : ℕ) {r : ℕ} → r < 2 ^ 64 → (r + getD from n 0) % 2 ^ 64 ≡ getD to n 0 → r ≡ remainder (shiftsOf to from n) (2 ^ 64)
-unfolding shiftsOf
+pub shift-told : (to from : List ℕ) (n : ℕ) {r : ℕ} → r < 2 ^ 64 → (r + getD from n 0) % 2 ^ 64 ≡ getD to n 0 → r ≡ remainder (addressShifts to from n) (2 ^ 64)
+unfolding addressShifts
 shift-told to from n h e = wrapped-difference (getD to n 0) (getD from n 0) (pos (getD to n 0)) (pos (getD from n 0)) h e refl refl
 
 module _ {k : AmountKind} (x y : ℤ) {z : ℕ} (e : z ≡ remainder x (2 ^ 64)) where

@@ -14,7 +14,6 @@ use Rattle.header.proofs.Accepted.{opened-inside}
 use Rattle.symbol.specs.declared.Tables.{Tables}
 use Rattle.symbol.specs.Entry.{tablesOf}
 use Rattle.section_relocation.specs.declared.ObjectSection.{ObjectSection}
-use Rattle.section_relocation.specs.Entry.{fieldIn}
 use Rattle.section_relocation.proofs.Entries.{field-in-held}
 use Rattle.book.specs.Machine.{Shifts}
 use Rattle.object_history.specs.declared.ObjectEntry.{ObjectEntry}

@@ -7,7 +7,7 @@ ghost use Rattle.field_kind.specs.Field.{addTo};
 ghost use Rattle.object_history.specs.Entry.{amountOf, applyAll};
 ghost use Rattle.object_entry.specs.Entry.{objectEntry};
 ghost use Rattle.object_plan.specs.Object.{tableEntries, objectOf};
-ghost use Rattle.object_plan.specs.Shifts.{shiftsOf, numbers};
+ghost use Rattle.object_plan.specs.Shifts.{addressShifts, numbers};
 ghost use Rattle.object_plan.specs.Ready.{ObjectReady, PartReady};
 use header::Summary;
 use object_history::AmountKind;
@@ -18,7 +18,7 @@ use symbol::Tables;
 // The shift of section number `n` modulo 2^64: its address in `to` minus that in `from`.
 fn shift_of(to: &[u64], from: &[u64], n: u64) -> u64
     requires { ⌜ (n < length (now to)) × (n < length (now from)) ⌝ }
-    ensures { λ r. ⌜ r ≡ remainder (shiftsOf (now (to .entry)) (now (from .entry)) n) (2 ^ 64) ⌝ }
+    ensures { λ r. ⌜ r ≡ remainder (addressShifts (now (to .entry)) (now (from .entry)) n) (2 ^ 64) ⌝ }
 {
     let k = n as usize;
     std::num::wrapping_sub_u64(to[k], from[k])
@@ -28,7 +28,7 @@ fn shift_of(to: &[u64], from: &[u64], n: u64) -> u64
 fn amount_of(to: &[u64], from: &[u64], e: ObjectEntry) -> u64
     requires { ⌜ (e .symbol < length (now to)) × (e .symbol < length (now from)) ⌝ }
     requires { ⌜ (e .name .section .0 < length (now to)) × (e .name .section .0 < length (now from)) ⌝ }
-    ensures { λ r. ⌜ r ≡ remainder (amountOf e (shiftsOf (now (to .entry)) (now (from .entry)))) (2 ^ 64) ⌝ }
+    ensures { λ r. ⌜ r ≡ remainder (amountOf e (addressShifts (now (to .entry)) (now (from .entry)))) (2 ^ 64) ⌝ }
 {
     let amount = e.amount;
     let name = e.name;
@@ -53,7 +53,7 @@ fn apply_entry(
 )
     requires { ⌜ PartReady (now file) t s × (i < s .count) ⌝ }
     requires { ⌜ (length (now to) ≡ numbers) × (length (now from) ≡ numbers) × (s .place + s .size ≤ length (now buffer)) ⌝ }
-    ensures { λ _. ⌜ now (buffer .exit) ≡ addTo (objectEntry (now (file .entry)) t s i .field) (amountOf (objectEntry (now (file .entry)) t s i) (shiftsOf (now (to .entry)) (now (from .entry)))) (now (buffer .entry)) ⌝ }
+    ensures { λ _. ⌜ now (buffer .exit) ≡ addTo (objectEntry (now (file .entry)) t s i .field) (amountOf (objectEntry (now (file .entry)) t s i) (addressShifts (now (to .entry)) (now (from .entry)))) (now (buffer .entry)) ⌝ }
 {
     let e = object_entry::entry_at(file, t, s, i);
     let z = amount_of(to, from, e);
@@ -73,7 +73,7 @@ fn apply_table(
 )
     requires { ⌜ PartReady (now file) t s ⌝ }
     requires { ⌜ (length (now to) ≡ numbers) × (length (now from) ≡ numbers) × (s .place + s .size ≤ length (now buffer)) ⌝ }
-    ensures { λ _. ⌜ now (buffer .exit) ≡ applyAll (tableEntries (now (file .entry)) t s) (shiftsOf (now (to .entry)) (now (from .entry))) (now (buffer .entry)) ⌝ }
+    ensures { λ _. ⌜ now (buffer .exit) ≡ applyAll (tableEntries (now (file .entry)) t s) (addressShifts (now (to .entry)) (now (from .entry))) (now (buffer .entry)) ⌝ }
 {
     let n = s.count;
     let mut i: u64 = 0;
@@ -94,7 +94,7 @@ pub fn apply_entries(
 )
     requires { ⌜ ObjectReady (now file) y t ⌝ }
     requires { ⌜ (length (now to) ≡ numbers) × (length (now from) ≡ numbers) × (length (now buffer) ≡ length (objectOf (now file) .raw)) ⌝ }
-    ensures { λ _. ⌜ now (buffer .exit) ≡ applyAll (objectOf (now (file .entry)) .entries) (shiftsOf (now (to .entry)) (now (from .entry))) (now (buffer .entry)) ⌝ }
+    ensures { λ _. ⌜ now (buffer .exit) ≡ applyAll (objectOf (now (file .entry)) .entries) (addressShifts (now (to .entry)) (now (from .entry))) (now (buffer .entry)) ⌝ }
 {
     let n = y.count;
     let len = file.len() as u64;

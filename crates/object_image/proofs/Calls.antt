@@ -21,7 +21,7 @@ use Rattle.object_history.specs.Entry.{applyAll}
 use Rattle.object_history.specs.Object.{Object, Plan, displacements, differences}
 use Rattle.object_history.specs.Call.{Call, build, move, rangeCheck, callCheck, effect}
 use Rattle.object_plan.specs.Object.{objectOf}
-use Rattle.object_plan.specs.Shifts.{shiftsOf}
+use Rattle.object_plan.specs.Shifts.{addressShifts}
 use Rattle.object_plan.specs.Ready.{ObjectReady}
 use Rattle.object_shifts.specs.Places.{placesOf, recordedOf}
 use Rattle.object_shifts.proofs.Places.{built-shifts, moved-shifts}
@@ -67,9 +67,9 @@ module _ (file : List ℕ) (y : Summary) (t : Tables) (r : ObjectReady file y t)
       build-known = plan-known file y t r p (length x) (told-accepted e h k)
 
       module _ {to from : List ℕ} (m : to ≡ placesOf y p) (n : from ≡ recordedOf y) {w : Verdict} {b : Bool}
-          (f : w ≡ rangeCheck (objectOf file) (shiftsOf to from) (objectOf file .raw)) (i : b ≡ isRefused w) where
-        built : shiftsOf to from ≡ displacements (objectOf file) p
-        built = ap₂ shiftsOf m n ∙ built-shifts file y t r p
+          (f : w ≡ rangeCheck (objectOf file) (addressShifts to from) (objectOf file .raw)) (i : b ≡ isRefused w) where
+        built : addressShifts to from ≡ displacements (objectOf file) p
+        built = ap₂ addressShifts m n ∙ built-shifts file y t r p
 
         judged : w ≡ callCheck (objectOf file) (length x) x (build p)
         judged =
@@ -79,7 +79,7 @@ module _ (file : List ℕ) (y : Summary) (t : Tables) (r : ObjectReady file y t)
         pub build-out : b ≡ true → Answers (objectOf file) (build p) x w x
         build-out j = call-refused (objectOf file) (build p) x judged (sym i ∙ j)
 
-        pub build-written : {z u : List ℕ} → b ≡ false → z ≡ objectOf file .raw → u ≡ applyAll (objectOf file .entries) (shiftsOf to from) z
+        pub build-written : {z u : List ℕ} → b ≡ false → z ≡ objectOf file .raw → u ≡ applyAll (objectOf file .entries) (addressShifts to from) z
             → Answers (objectOf file) (build p) x Accepted u
         build-written j raw q =
             build-done (objectOf file) p x _ (told-accepted judged i j)
@@ -96,9 +96,9 @@ module _ (file : List ℕ) (y : Summary) (t : Tables) (r : ObjectReady file y t)
       move-known = plans-known file y t r p q (length x) (told-accepted e h k)
 
       module _ {to from : List ℕ} (m : to ≡ placesOf y q) (n : from ≡ placesOf y p) {w : Verdict} {b : Bool}
-          (f : w ≡ rangeCheck (objectOf file) (shiftsOf to from) x) (i : b ≡ isRefused w) where
-        moved : shiftsOf to from ≡ differences (objectOf file) p q
-        moved = ap₂ shiftsOf m n ∙ moved-shifts file y t r p q
+          (f : w ≡ rangeCheck (objectOf file) (addressShifts to from) x) (i : b ≡ isRefused w) where
+        moved : addressShifts to from ≡ differences (objectOf file) p q
+        moved = ap₂ addressShifts m n ∙ moved-shifts file y t r p q
 
         move-judged : w ≡ callCheck (objectOf file) (length x) x (move p q)
         move-judged =
@@ -107,7 +107,7 @@ module _ (file : List ℕ) (y : Summary) (t : Tables) (r : ObjectReady file y t)
         pub move-out : b ≡ true → Answers (objectOf file) (move p q) x w x
         move-out j = call-refused (objectOf file) (move p q) x move-judged (sym i ∙ j)
 
-        pub move-written : {u : List ℕ} → b ≡ false → u ≡ applyAll (objectOf file .entries) (shiftsOf to from) x → Answers (objectOf file) (move p q) x Accepted u
+        pub move-written : {u : List ℕ} → b ≡ false → u ≡ applyAll (objectOf file .entries) (addressShifts to from) x → Answers (objectOf file) (move p q) x Accepted u
         move-written j l =
             move-done (objectOf file) p q x _ (told-accepted move-judged i j) (l ∙ ap (λ (s : Shifts). applyAll (objectOf file .entries) s x) moved)
 

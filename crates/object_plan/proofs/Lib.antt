@@ -3,3 +3,4 @@ pub mod Ready
 pub mod Turns
 pub mod Sound
 pub mod Demand3File
+pub mod Named

@@ -44,7 +44,7 @@ use Rattle.object_plan.specs.Object.{entriesFrom, tableEntries, entriesI
 
 -- ---- lists, one after the other
 
-all-append : (P : ObjectEntry → Type 0) (xs ys : List ObjectEntry) → All P xs → All P ys → All P (xs ++ ys)
+pub all-append : (P : ObjectEntry → Type 0) (xs ys : List ObjectEntry) → All P xs → All P ys → All P (xs ++ ys)
 all-append P [] ys a b = b
 all-append P (x ∷ xs) ys a b = (a .0, all-append P xs ys (a .1) b)
 

@@ -3,7 +3,7 @@ ghost use mathlib.Core.Path.{_≡_};
 ghost use lib.ListN.{length};
 ghost use Rattle.object_history.specs.Call.{rangeCheck};
 ghost use Rattle.object_plan.specs.Object.{objectOf};
-ghost use Rattle.object_plan.specs.Shifts.{shiftsOf, numbers};
+ghost use Rattle.object_plan.specs.Shifts.{addressShifts, numbers};
 ghost use Rattle.object_plan.specs.Ready.{ObjectReady};
 ghost use Rattle.object_range.specs.Sections.{originOf, sectionsRange, Covers};
 use header::Summary;
@@ -39,7 +39,7 @@ fn check_sections(
     bytes: &[u8],
 ) -> Verdict
     requires { ⌜ ObjectReady (now file) y t × Covers (now file) y source (now bytes) × (length (now to) ≡ numbers) × (length (now from) ≡ numbers) ⌝ }
-    ensures { λ r. ⌜ r ≡ sectionsRange (now (file .entry)) y (shiftsOf (now (to .entry)) (now (from .entry))) source (now (bytes .entry)) ⌝ }
+    ensures { λ r. ⌜ r ≡ sectionsRange (now (file .entry)) y (addressShifts (now (to .entry)) (now (from .entry))) source (now (bytes .entry)) ⌝ }
 {
     let n = y.count;
     let len = file.len() as u64;
@@ -63,7 +63,7 @@ fn check_sections(
 // RANGE of a build, from the raw bytes.
 pub fn check_built(file: &[u8], y: Summary, t: Tables, to: &[u64], from: &[u64]) -> Verdict
     requires { ⌜ ObjectReady (now file) y t × (length (now to) ≡ numbers) × (length (now from) ≡ numbers) ⌝ }
-    ensures { λ r. ⌜ r ≡ rangeCheck (objectOf (now (file .entry))) (shiftsOf (now (to .entry)) (now (from .entry))) (objectOf (now (file .entry)) .raw) ⌝ }
+    ensures { λ r. ⌜ r ≡ rangeCheck (objectOf (now (file .entry))) (addressShifts (now (to .entry)) (now (from .entry))) (objectOf (now (file .entry)) .raw) ⌝ }
 {
     check_sections(file, y, t, to, from, Source::RawData, file)
 }
@@ -78,7 +78,7 @@ pub fn check_moved(
     buffer: &[u8],
 ) -> Verdict
     requires { ⌜ ObjectReady (now file) y t × (length (now to) ≡ numbers) × (length (now from) ≡ numbers) × (length (now buffer) ≡ length (objectOf (now file) .raw)) ⌝ }
-    ensures { λ r. ⌜ r ≡ rangeCheck (objectOf (now (file .entry))) (shiftsOf (now (to .entry)) (now (from .entry))) (now (buffer .entry)) ⌝ }
+    ensures { λ r. ⌜ r ≡ rangeCheck (objectOf (now (file .entry))) (addressShifts (now (to .entry)) (now (from .entry))) (now (buffer .entry)) ⌝ }
 {
     check_sections(file, y, t, to, from, Source::Buffer, buffer)
 }

@@ -15,7 +15,7 @@ use Rattle.header.specs.declared.Summary.{Summary}
 use Rattle.symbol.specs.declared.Tables.{Tables}
 use Rattle.object_history.specs.Object.{Placed, Plan, unplaced, sectionOf, moveOf, displacements, differences}
 use Rattle.object_plan.specs.Object.{placedAt, placedIn, objectOf}
-use Rattle.object_plan.specs.Shifts.{shiftsOf, numbers}
+use Rattle.object_plan.specs.Shifts.{addressShifts, numbers}
 use Rattle.object_plan.specs.Ready.{ObjectReady}
 use Rattle.object_plan.proofs.Ready.{object-sections, sections-few}
 use Rattle.object_shifts.specs.Places.{placedAddress, placesBy, placesOf, recordedOf}
@@ -127,8 +127,8 @@ module _ (file : List ℕ) (y : Summary) (t : Tables) (r : ObjectReady file y t)
   none a = places-other (y .sections) a (y .count) 0 (λ j h e. absurd (omega arith))
 
   -- a build's shifts: from the recorded addresses to the plan's
-  pub built-shifts : (p : Plan) → shiftsOf (placesOf y p) (recordedOf y) ≡ displacements (objectOf file) p
-  unfolding shiftsOf placesOf recordedOf displacements
+  pub built-shifts : (p : Plan) → addressShifts (placesOf y p) (recordedOf y) ≡ displacements (objectOf file) p
+  unfolding addressShifts placesOf recordedOf displacements
   built-shifts p = fun-ext each
     where
       plan : ℕ → ℕ
@@ -146,8 +146,8 @@ module _ (file : List ℕ) (y : Summary) (t : Tables) (r : ObjectReady file y t)
           by (no l) = rw (past plan k (omega arith), past recorded k (omega arith), section-past k (omega arith)) (built-one unplaced (getD p k 0))
 
   -- a move's: from one plan's to another's
-  pub moved-shifts : (p q : Plan) → shiftsOf (placesOf y q) (placesOf y p) ≡ differences (objectOf file) p q
-  unfolding shiftsOf placesOf differences displacements
+  pub moved-shifts : (p q : Plan) → addressShifts (placesOf y q) (placesOf y p) ≡ differences (objectOf file) p q
+  unfolding addressShifts placesOf differences displacements
   moved-shifts p q = fun-ext each
     where
       from : ℕ → ℕ

@@ -1,20 +1,19 @@
 use Rattle.branch_range.proofs.CellLaws.{all-none, all-turn, all-end}
 use Rattle.branch_range.proofs.Known.{held-good}
 use Rattle.branch_range.specs.Cells.{AllOut}
-use Rattle.object_plan.specs.Shifts.{shiftsOf}
-use Rattle.section_relocation.specs.Entry.{fieldIn}
+use Rattle.object_plan.specs.Shifts.{addressShifts}
 use Rattle.object_entry.proofs.Entries.{entry-field}
 use Rattle.object_entry.specs.Entry.{objectEntry}
-use Prim.Native.Nat.{ℕ, _+_, _-_, _*_, _≤_, _<_}
+use Prim.Native.Nat.{_+_, _-_, _*_, _≤_}
 use lib.ListN.{length}
-use mathlib.Core.Path.{_≡_, _∙_, ap, ap₂, sym, refl, subst}
+use mathlib.Core.Path.{_≡_, _∙_, sym, refl}
 use borrow.Author.Needs.{needs}
 use native.Mathlib.Omega.{arith}
 use Rattle.branch_range.proofs.add_all.Statement.{statement}
 use Rattle.branch_range.proofs.add_all.Tie as tie
 
 abbrev Inv-loop : tie.InvT-loop
-Inv-loop file t s to from base limit low₀ high₀ f end next₀ i₀ low high next i = (i ≤ s .count) × (f ≡ t .format) × (end ≡ base + 4 * length low₀) × AllOut (objectEntry file t s) (shiftsOf to from) i base (length low₀) next low high
+Inv-loop file t s to from base limit low₀ high₀ f end next₀ i₀ low high next i = (i ≤ s .count) × (f ≡ t .format) × (end ≡ base + 4 * length low₀) × AllOut (objectEntry file t s) (addressShifts to from) i base (length low₀) next low high
 
 abbrev μ-loop : tie.MeasureT-loop
 μ-loop file t s to from base limit low₀ high₀ f end next₀ i₀ low high next i = s .count - i

@@ -1,6 +1,4 @@
 use Rattle.branch_range.proofs.Amounts.{added-plus, added-minus, added-relative}
-use mathlib.Core.Path.{_≡_, _∙_, ap, ap₂, sym, refl, subst}
-use native.Mathlib.Omega.{arith}
 use borrow.Author.Needs.{needs}
 use Rattle.branch_range.proofs.add_amount.Statement.{statement}
 use Rattle.branch_range.proofs.add_amount.Tie as tie
@@ -75,13 +73,13 @@ add-shift-requires-4 : tie.Need-add-shift-requires-4
 add-shift-requires-4 c κs = search needs
 
 returns : tie.Need-returns
-returns c = let a = c .before .before .before .before .before .before .before .args in added-plus _ (a .to .now) (a .from .now) (a .symbol) (a .section) (c .before .before .before .enum-told .given .1) (c .add-shift .ensures)
+returns c = let a = c .before .before .before .before .before .before .before .args in added-plus _ (a .to .now) (a .from .now) (a .e .symbol) (a .e .name .section .0) (c .before .before .before .enum-told .given .1) (c .add-shift .ensures)
 
 returns-2 : tie.Need-returns-2
-returns-2 c = let a = c .before .before .before .before .before .before .before .args in added-minus _ (a .to .now) (a .from .now) (a .symbol) (a .section) (c .before .before .before .enum-told2 .given .1) (c .add-shift2 .ensures)
+returns-2 c = let a = c .before .before .before .before .before .before .before .args in added-minus _ (a .to .now) (a .from .now) (a .e .symbol) (a .e .name .section .0) (c .before .before .before .enum-told2 .given .1) (c .add-shift2 .ensures)
 
 returns-3 : tie.Need-returns-3
-returns-3 c = let a = c .before .before .before .before .before .before .before .before .before .before .args in added-relative _ (a .to .now) (a .from .now) (a .symbol) (a .section) (c .before .before .before .before .before .before .enum-told3 .given .1) (c .before .before .before .add-shift3 .ensures) (c .add-shift4 .ensures)
+returns-3 c = let a = c .before .before .before .before .before .before .before .before .before .before .before .before .args in added-relative _ (a .to .now) (a .from .now) (a .e .symbol) (a .e .name .section .0) (c .before .before .before .before .before .before .before .before .enum-told3 .given .1) (c .before .before .before .add-shift3 .ensures) (c .add-shift4 .ensures)
 
 pub add-amount-spec : {M : Type 1} → statement M
 add-amount-spec =

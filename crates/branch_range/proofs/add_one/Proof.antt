@@ -1,7 +1,7 @@
 use Rattle.branch_range.proofs.CellLaws.{step-none, step-add}
-use Rattle.branch_range.proofs.Known.{own-good, part-symbol, part-section}
+use Rattle.branch_range.proofs.Known.{own-good, part-numbers}
 use Rattle.object_entry.proofs.Entries.{entry-field}
-use mathlib.Core.Path.{_≡_, _∙_, ap, ap₂, sym, refl, subst}
+use mathlib.Core.Path.{_∙_, sym}
 use native.Mathlib.Omega.{arith}
 use borrow.Author.Needs.{needs}
 use Rattle.branch_range.proofs.add_one.Statement.{statement}
@@ -17,7 +17,7 @@ entry-at-requires : tie.Need-entry-at-requires
 entry-at-requires c κs = let a = c .before .before .before .before .before .before .before .args in let p = c .before .before .before .before .before .before .before .pre .0 in (p .0 .entries .tables, p .0 .entries .ready, p .1, own-good (a .file .now) (a .t) (a .s) (p .0) (a .i) (p .1))
 
 add-to-cell-requires : tie.Need-add-to-cell-requires
-add-to-cell-requires c κs = let a = c .before .before .before .before .before .before .before .before .before .before .args in let p = c .before .before .before .before .before .before .before .before .before .before .pre in let e = c .before .before .entry-at .ensures in ((p .1 .0, p .1 .1, rw e (part-symbol (a .file .now) (a .t) (a .s) (p .0 .0) (a .i) (p .0 .1)), rw e (part-section (a .file .now) (a .t) (a .s) (p .0 .0) (a .i))), (omega (arith, c .before .before .before .if1 .left), omega (arith, c .before .before .before .if1 .left, p .1 .2)))
+add-to-cell-requires c κs = let a = c .before .before .before .before .before .before .before .before .before .before .args in let p = c .before .before .before .before .before .before .before .before .before .before .pre in let n = part-numbers (a .file .now) (a .t) (a .s) (p .0 .0) (a .i) (p .0 .1) (c .before .before .entry-at .ensures) in ((p .1 .0, p .1 .1, n .0, n .1), (omega (arith, c .before .before .before .if1 .left), omega (arith, c .before .before .before .if1 .left, p .1 .2)))
 
 same-length : tie.Need-same-length
 same-length c = search needs

@@ -1,7 +1,5 @@
 use lib.IntN.{pos, negℤ}
 use Rattle.branch_range.proofs.Amounts.{add-both}
-use mathlib.Core.Path.{_≡_, _∙_, ap, ap₂, sym, refl, subst}
-use native.Mathlib.Omega.{arith}
 use borrow.Author.Needs.{needs}
 use Rattle.branch_range.proofs.add_shift.Statement.{statement}
 use Rattle.branch_range.proofs.add_shift.Tie as tie

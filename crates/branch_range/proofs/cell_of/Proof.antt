@@ -1,7 +1,6 @@
 use borrow.Author.Tests.{not-true, not-false}
 use Rattle.branch_range.proofs.CellLaws.{cell-plain, cell-below, cell-there, cell-past}
-use mathlib.Core.Path.{_≡_, _∙_, ap, ap₂, sym, refl, subst}
-use native.Mathlib.Omega.{arith}
+use mathlib.Core.Path.{_∙_, sym}
 use borrow.Author.Needs.{needs}
 use Rattle.branch_range.proofs.cell_of.Statement.{statement}
 use Rattle.branch_range.proofs.cell_of.Tie as tie

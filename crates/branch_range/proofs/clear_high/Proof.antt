@@ -1,7 +1,7 @@
 use Rattle.section_overlap.proofs.CellLaws.{zero-turn, zero-end}
 use Prim.Native.Nat.{ℕ, _-_, _≤_, _<_}
 use lib.ListN.{length, getD, length-set}
-use mathlib.Core.Path.{_≡_, _∙_, ap, ap₂, sym, refl, subst}
+use mathlib.Core.Path.{_≡_, refl}
 use borrow.Author.Needs.{needs}
 use native.Mathlib.Omega.{arith}
 use Rattle.branch_range.proofs.clear_high.Statement.{statement}

@@ -1,6 +1,6 @@
 use borrow.Author.Tests.{not-true}
 use Rattle.section_overlap.proofs.Rule.{no-false}
-use mathlib.Core.Path.{_≡_, _∙_, ap, ap₂, sym, refl, subst}
+use mathlib.Core.Path.{_∙_, sym}
 use native.Mathlib.Omega.{arith}
 use borrow.Author.Needs.{needs}
 use Rattle.branch_range.proofs.lower.Statement.{statement}

@@ -4,8 +4,6 @@ use Rattle.branch_range.specs.Cells.{OutBy}
 use Rattle.branch_range.specs.Range.{wordFrom}
 use Rattle.section_relocation.specs.Entry.{fieldIn}
 use Prim.Native.Nat.{ℕ, _-_, _≤_, _<_}
-use mathlib.Core.Path.{_≡_, _∙_, ap, ap₂, sym, refl, subst}
-use borrow.Author.Needs.{needs}
 use native.Mathlib.Omega.{arith}
 use Rattle.branch_range.proofs.scan.Statement.{statement}
 use Rattle.branch_range.proofs.scan.Tie as tie

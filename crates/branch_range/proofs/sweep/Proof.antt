@@ -1,20 +1,19 @@
 use Rattle.branch_range.proofs.CellLaws.{sweep-none, sweep-turn, sweep-first}
-use Rattle.branch_range.proofs.Known.{part-readable, part-words, part-few, shifts-small}
+use Rattle.branch_range.proofs.Known.{part-readable, part-words, part-small}
 use Rattle.branch_range.specs.Cells.{SweepOut}
 use Rattle.branch_range.specs.Range.{wordFrom}
-use Rattle.object_plan.specs.Shifts.{shiftsOf}
+use Rattle.object_plan.specs.Shifts.{addressShifts}
 use Rattle.object_entry.proofs.Entries.{entry-field}
 use Rattle.object_entry.specs.Entry.{objectEntry}
-use Prim.Native.Nat.{ℕ, _+_, _-_, _*_, _≤_, _<_}
+use Prim.Native.Nat.{_+_, _-_, _*_}
 use lib.ListN.{length}
-use mathlib.Core.Path.{_≡_, _∙_, ap, ap₂, sym, refl, subst}
-use borrow.Author.Needs.{needs}
+use mathlib.Core.Path.{_≡_, _∙_, sym, refl}
 use native.Mathlib.Omega.{arith}
 use Rattle.branch_range.proofs.sweep.Statement.{statement}
 use Rattle.branch_range.proofs.sweep.Tie as tie
 
 abbrev Inv-loop : tie.InvT-loop
-Inv-loop file t s to from bytes origin low₀ high₀ f end limit first₀ base₀ low high first base = (length low ≡ 65536) × (length high ≡ 65536) × (f ≡ t .format) × (end ≡ s .place + s .size) × (limit ≡ end + 4 * 65536) × SweepOut (objectEntry file t s) (s .count) (shiftsOf to from) (wordFrom bytes origin s) base first
+Inv-loop file t s to from bytes origin low₀ high₀ f end limit first₀ base₀ low high first base = (length low ≡ 65536) × (length high ≡ 65536) × (f ≡ t .format) × (end ≡ s .place + s .size) × (limit ≡ end + 4 * 65536) × SweepOut (objectEntry file t s) (s .count) (addressShifts to from) (wordFrom bytes origin s) base first
 
 abbrev μ-loop : tie.MeasureT-loop
 μ-loop file t s to from bytes origin low₀ high₀ f end limit first₀ base₀ low high first base = end - base
@@ -41,7 +40,7 @@ loop-less : tie.Need-loop-less Inv-loop μ-loop
 loop-less c = omega (arith, c .before .before .before .before .before .before .before .before .before .before .loop-test .taken, c .before .before .before .before .before .before .before .before .before .before .before .loop .inv .0, c .before .before .before .before .before .before .before .add-all .ensures .further)
 
 loop-again : tie.Need-loop-again Inv-loop μ-loop
-loop-again c = let a = c .before .before .before .before .before .before .before .before .before .before .before .before .before .before .before .before .before .before .before .args in let v = c .before .before .before .before .before .before .before .before .before .before .before .loop .inv in let m = c .before .before .before .before .before .before .before .add-all .ensures in let p = c .before .before .before .before .before .before .before .before .before .before .before .before .before .before .before .before .before .before .before .pre .0 .0 in (m .lowSize ∙ v .0, m .highSize ∙ v .0, v .2, v .3, v .4, sweep-turn _ _ _ (part-words (a .file .now) (a .t) (a .s) p) _ (record { few = part-few (a .file .now) (a .t) (a .s) p; shifts = shifts-small (a .to .now) (a .from .now) (λ j. c .before .before .before .before .before .before .before .before .before .before .before .before .before .before .before .before .before .shared-slice-known2 .given j .fits) (λ j. c .before .before .before .before .before .before .before .before .before .before .before .before .before .before .before .before .shared-slice-known3 .given j .fits) }) _ _ _ _ _ _ _ _ (λ i. entry-field (a .file .now) (a .t) (a .s) i) (v .5) m (c .scan .ensures))
+loop-again c = let a = c .before .before .before .before .before .before .before .before .before .before .before .before .before .before .before .before .before .before .before .args in let v = c .before .before .before .before .before .before .before .before .before .before .before .loop .inv in let m = c .before .before .before .before .before .before .before .add-all .ensures in let p = c .before .before .before .before .before .before .before .before .before .before .before .before .before .before .before .before .before .before .before .pre .0 .0 in (m .lowSize ∙ v .0, m .highSize ∙ v .0, v .2, v .3, v .4, sweep-turn _ _ _ (part-words (a .file .now) (a .t) (a .s) p) _ (part-small (a .file .now) (a .t) (a .s) (a .to .now) (a .from .now) p (λ j. c .before .before .before .before .before .before .before .before .before .before .before .before .before .before .before .before .before .shared-slice-known2 .given j .fits) (λ j. c .before .before .before .before .before .before .before .before .before .before .before .before .before .before .before .before .shared-slice-known3 .given j .fits)) _ _ _ _ _ _ _ _ (λ i. entry-field (a .file .now) (a .t) (a .s) i) (v .5) m (c .scan .ensures))
 
 same-length : tie.Need-same-length Inv-loop μ-loop
 same-length c = c .before .loop .inv .0 ∙ sym (c .before .before .before .before .before .before .before .before .before .pre .1 .2)

@@ -6,7 +6,7 @@ use Rattle.object_history.specs.Entry.{applyAll}
 use Rattle.object.specs.Sections.{bytesBefore, entriesBefore}
 use Rattle.object.proofs.Sections.{part-here, place-fits, first-fits, bytes-next, entries-next}
 use Rattle.object_plan.specs.Object.{entriesIn, objectOf}
-use Rattle.object_plan.specs.Shifts.{shiftsOf}
+use Rattle.object_plan.specs.Shifts.{addressShifts}
 use Rattle.object_plan.proofs.Ready.{sections-few, part-good}
 use Rattle.object_apply.proofs.Entries.{tables-begin, tables-next, tables-done, section-inside}
 use Rattle.object_apply.proofs.apply_entries.Statement.{statement}
@@ -15,7 +15,7 @@ use Rattle.object_apply.proofs.apply_entries.Tie as tie
 abbrev Inv-loop : tie.InvT-loop
 Inv-loop file y t to from buffer₀ n len place₀ first₀ k₀ buffer place first k =
     (k ≤ y .count) × (len ≡ length file) × (place ≡ bytesBefore (length file) y k) × (first ≡ entriesBefore (length file) y k) × (length buffer ≡ length buffer₀)
-    × (applyAll (entriesIn file y k (y .count - k)) (shiftsOf to from) buffer ≡ applyAll (objectOf file .entries) (shiftsOf to from) buffer₀)
+    × (applyAll (entriesIn file y k (y .count - k)) (addressShifts to from) buffer ≡ applyAll (objectOf file .entries) (addressShifts to from) buffer₀)
 
 abbrev μ-loop : tie.MeasureT-loop
 μ-loop file y t to from buffer₀ n len place₀ first₀ k₀ buffer place first k = y .count - k
@@ -24,7 +24,7 @@ loop-holds : tie.Need-loop-holds Inv-loop μ-loop
 unfolding bytesBefore entriesBefore
 loop-holds c =
     let a = c .before .before .before .before .args in
-    (omega arith, refl, refl, refl, refl, tables-begin (a .file .now) (a .y) (a .t) (c .before .before .before .before .pre .0) (shiftsOf (a .to .now) (a .from .now)) (a .buffer .now))
+    (omega arith, refl, refl, refl, refl, tables-begin (a .file .now) (a .y) (a .t) (c .before .before .before .before .pre .0) (addressShifts (a .to .now) (a .from .now)) (a .buffer .now))
 
 part-of-requires : tie.Need-part-of-requires Inv-loop μ-loop
 part-of-requires c κs = let a = c .before .before .before .before .before .before .args in (c .loop-test .taken, sections-few (a .file .now) (a .y) (a .t) (c .before .before .before .before .before .before .pre .0))
@@ -67,7 +67,7 @@ loop-again c =
       bytes-next (length (a .file .now)) (a .y) (c .before .before .before .before .before .before .before .before .loop .k) (v .2) h,
       entries-next (length (a .file .now)) (a .y) (c .before .before .before .before .before .before .before .before .loop .k) (v .3) h,
       c .before .before .before .before .apply-table .kept .1 .1 .1 .1 .1 .0 ∙ v .4,
-      tables-next (a .file .now) (a .y) (a .t) (c .before .before .before .before .before .before .before .before .before .before .before .before .before .pre .0) (shiftsOf (a .to .now) (a .from .now)) (c .before .before .before .before .before .before .before .before .loop .k) (c .before .before .before .before .before .before .before .before .loop .buffer) (c .before .before .before .before .before .before .before .loop-test .taken) h
+      tables-next (a .file .now) (a .y) (a .t) (c .before .before .before .before .before .before .before .before .before .before .before .before .before .pre .0) (addressShifts (a .to .now) (a .from .now)) (c .before .before .before .before .before .before .before .before .loop .k) (c .before .before .before .before .before .before .before .before .loop .buffer) (c .before .before .before .before .before .before .before .loop-test .taken) h
           (c .before .before .before .before .apply-table .ensures) ∙ v .5,
     )
 
@@ -77,7 +77,7 @@ same-length c = c .before .loop .inv .4
 returns : tie.Need-returns Inv-loop μ-loop
 returns c =
     let a = c .before .before .before .before .before .before .args in
-    sym (tables-done (a .file .now) (a .y) (a .t) (c .before .before .before .before .before .before .pre .0) (shiftsOf (a .to .now) (a .from .now)) (c .before .loop .k) (c .before .loop .buffer) (c .loop-test .left))
+    sym (tables-done (a .file .now) (a .y) (a .t) (c .before .before .before .before .before .before .pre .0) (addressShifts (a .to .now) (a .from .now)) (c .before .loop .k) (c .before .loop .buffer) (c .loop-test .left))
     ∙ c .before .loop .inv .5
 
 pub apply-entries-spec : {M : Type 1} → statement M

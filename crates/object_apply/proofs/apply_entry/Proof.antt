@@ -1,4 +1,4 @@
-use Rattle.object_plan.specs.Shifts.{shiftsOf}
+use Rattle.object_plan.specs.Shifts.{addressShifts}
 use Rattle.object_apply.proofs.Entries.{own, symbol-listed, section-listed, field-inside, entry-applied}
 use borrow.Author.Needs.{needs}
 use Rattle.object_apply.proofs.apply_entry.Statement.{statement}
@@ -36,7 +36,7 @@ returns : tie.Need-returns
 returns c =
     let a = c .before .before .before .before .before .before .before .before .before .before .before .args in
     let p = c .before .before .before .before .before .before .before .before .before .before .before .pre .0 in
-    entry-applied (a .file .now) (a .t) (a .s) (p .0) (a .i) (p .1) (shiftsOf (a .to .now) (a .from .now)) (a .buffer .now)
+    entry-applied (a .file .now) (a .t) (a .s) (p .0) (a .i) (p .1) (addressShifts (a .to .now) (a .from .now)) (a .buffer .now)
     (c .before .before .before .before .before .before .entry-at .ensures) (c .before .before .before .before .before .amount-of .ensures) (c .before .before .add-to .ensures)
 
 pub apply-entry-spec : {M : Type 1} → statement M
