@@ -16,7 +16,10 @@ use Rattle.format.specs.declared.MagicAnswer.the-variants as magic
 use Rattle.format.specs.Layout.{magicField, formatOf, sectionLayout, symbolLength, loaderSymbolLength, relocationLayout}
 use Rattle.format.specs.Limit.{fileLimit}
 use Rattle.refusal.specs.declared.Refusal.{Refusal}
-use Rattle.refusal.specs.declared.Refusal.the-variants.{Short, Magic, Limit, Kind, Bounds, Address, Strings, Index, Aux, Name, Scnum, Csect, Module, Thread, Loader, Lsym, Lrel, Overlap, Plan, Room, Sheet, Record, Form, Clash, Full, Absent, Long, Shared, Visibility, NoLine, Group}
+use Rattle.refusal.specs.declared.Refusal.the-variants.{Short, Magic, Limit, Kind, Bounds, Address, Strings, Index, Aux, Name, Scnum, Csect, Module, Thread, Loader, Lsym, Lrel, SectionLrel, Overlap, SectionOverlap, Plan, Room, Sheet, Record, Form, Clash, Range, Full, Absent, Long, Shared, Visibility, NoLine, Group}
+use Rattle.refusal.specs.declared.SectionRelocation.{SectionRelocation}
+use Rattle.table_kind.specs.declared.TableKind.the-variants.{Relocations as RelocationTable}
+use Rattle.table_kind.specs.Kind.{entryLength}
 use Rattle.refusal.specs.declared.LimitItem.{LimitItem}
 use Rattle.refusal.specs.declared.LimitItem.the-variants.{File, Sections, LoaderSymbols, SheetList, Relocations, DataImage, SalvageReport}
 use Rattle.refusal.specs.declared.BoundsItem.{BoundsItem}
@@ -32,7 +35,7 @@ use Rattle.file_header.specs.Header.{headerAt, headerCheck}
 use Rattle.offset.specs.declared.Starts.{Starts}
 use Rattle.offset.specs.declared.StartsAnswer.{StartsAnswer}
 use Rattle.offset.specs.declared.StartsAnswer.the-variants.{Known, Unknown}
-use Rattle.offset.specs.Offset.{placed, entryPlace, loaderIn, startsAs, startsBy, startsOf, headerPlace, symbolPlace, loaderSymbolPlace, relocationPlace, limitPlace, boundsPlace, addressPlace, threadPlace, offsetIn, offsetBy, offsetOf}
+use Rattle.offset.specs.Offset.{placed, entryPlace, loaderIn, startsAs, startsBy, startsOf, headerPlace, symbolPlace, loaderSymbolPlace, relocationPlace, sectionTable, sectionRelocationPlace, limitPlace, boundsPlace, addressPlace, threadPlace, offsetIn, offsetBy, offsetOf}
 
 -- a place behind a start, and an entry's place, are in the file: 0 where they are not
 placed-in : (len start off : ℕ) → placed len start off ≤ len
@@ -54,7 +57,7 @@ record Within (s : Starts) : Type 0 where
   strings : s .strings ≤ s .length
   loader : s .loader ≤ s .length
 
-module _ (s : Starts) (b : Within s) where
+module _ (file : List ℕ) (s : Starts) (b : Within s) where
   header-in : (n : ℕ) → headerPlace s n ≤ s .length
   header-in n = entry-in (s .length) (s .sections) (sectionLayout (s .format) .length) (n - 1)
 
@@ -66,6 +69,9 @@ module _ (s : Starts) (b : Within s) where
 
   relocation-in : (i : ℕ) → relocationPlace s i ≤ s .length
   relocation-in i = entry-in (s .length) (s .lrels) (relocationLayout (s .format) .length) i
+
+  section-relocation-in : (e : SectionRelocation) → sectionRelocationPlace file s e ≤ s .length
+  section-relocation-in e = entry-in (s .length) (sectionTable file s (e .section .0)) (entryLength RelocationTable (s .format)) (e .index)
 
   limit-in : (i : LimitItem) → limitPlace s i ≤ s .length
   limit-in LoaderSymbols = b .loader
@@ -90,7 +96,7 @@ module _ (s : Starts) (b : Within s) where
   thread-in (ThreadSection n) = header-in (n .0)
   thread-in (ThreadSymbol i) = relocation-in (i .0)
 
-  offset-in : (x : Refusal) → offsetIn s x ≤ s .length
+  offset-in : (x : Refusal) → offsetIn file s x ≤ s .length
   offset-in (Limit i) = limit-in i
   offset-in (Kind n) = header-in (n .0)
   offset-in (Bounds i) = bounds-in i
@@ -105,7 +111,10 @@ module _ (s : Starts) (b : Within s) where
   offset-in (Loader i) = b .loader
   offset-in (Lsym i) = loader-symbol-in i
   offset-in (Lrel i) = relocation-in (i .0)
+  offset-in (SectionLrel e) = section-relocation-in e
   offset-in (Overlap i) = relocation-in (i .0)
+  offset-in (SectionOverlap e) = section-relocation-in e
+  offset-in (Range e) = section-relocation-in e
   offset-in Short = omega arith
   offset-in Magic = omega arith
   offset-in (Index i) = omega arith
@@ -149,9 +158,12 @@ module _ (file : List ℕ) where
       (λ _. either Inside (ltb (length file) 2) (λ _. tt)
       (λ _. by-magic (formatOf (fieldIn magicField 0 file))))
 
-  by-starts : (x : Refusal) (a : StartsAnswer) → Inside a → offsetBy a x ≤ length file
+  pub known-length : {s : Starts} → startsOf file ≡ Known s → s .length ≡ length file
+  known-length e = (rw e at starts-inside) .0
+
+  by-starts : (x : Refusal) (a : StartsAnswer) → Inside a → offsetBy file a x ≤ length file
   by-starts x Unknown b = omega arith
-  by-starts x (Known s) b = let p = offset-in s (b .1) x in let e = b .0 in omega arith
+  by-starts x (Known s) b = let p = offset-in file s (b .1) x in let e = b .0 in omega arith
 
   -- request 4: "an offset is at most the file's length"
   pub offset-inside : (x : Refusal) → offsetOf file x ≤ length file

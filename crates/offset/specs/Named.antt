@@ -8,7 +8,8 @@ use Rattle.format.specs.declared.MagicAnswer.{MagicAnswer}
 use Rattle.format.specs.declared.MagicAnswer.the-variants.{Known, Unknown}
 use Rattle.format.specs.Layout.{magicField, formatOf, sectionLayout, symbolLength, loaderSymbolLength, relocationLayout}
 use Rattle.refusal.specs.declared.Refusal.{Refusal}
-use Rattle.refusal.specs.declared.Refusal.the-variants.{Short, Magic, Limit, Kind, Bounds, Address, Strings, Index, Aux, Name, Scnum, Csect, Module, Thread, Loader, Lsym, Lrel, Overlap, Plan, Room, Sheet, Record, Form, Clash, Full, Absent, Long, Shared, Visibility, NoLine, Group}
+use Rattle.refusal.specs.declared.Refusal.the-variants.{Short, Magic, Limit, Kind, Bounds, Address, Strings, Index, Aux, Name, Scnum, Csect, Module, Thread, Loader, Lsym, Lrel, SectionLrel, Overlap, SectionOverlap, Plan, Room, Sheet, Record, Form, Clash, Range, Full, Absent, Long, Shared, Visibility, NoLine, Group}
+use Rattle.refusal.specs.declared.SectionRelocation.{SectionRelocation}
 use Rattle.refusal.specs.declared.LimitItem.{LimitItem}
 use Rattle.refusal.specs.declared.LimitItem.the-variants.{File, Sections, LoaderSymbols, SheetList, Relocations, DataImage, SalvageReport}
 use Rattle.refusal.specs.declared.BoundsItem.{BoundsItem}
@@ -17,6 +18,9 @@ use Rattle.refusal.specs.declared.AddressItem.{AddressItem}
 use Rattle.refusal.specs.declared.AddressItem.the-variants.{Misplaced, BssBelowData}
 use Rattle.refusal.specs.declared.ThreadItem.{ThreadItem}
 use Rattle.refusal.specs.declared.ThreadItem.the-variants.{ThreadSection, ThreadSymbol}
+use Rattle.section.specs.Section.{sectionHeaderAt}
+use Rattle.table_kind.specs.declared.TableKind.the-variants.{Relocations as RelocationTable}
+use Rattle.table_kind.specs.Kind.{entryLength}
 use Rattle.file_header.specs.declared.FileHeader.{FileHeader}
 use Rattle.file_header.specs.Header.{headerAt, sectionStart}
 use Rattle.loader_header.specs.declared.LoaderHeader.{LoaderHeader}
@@ -61,6 +65,16 @@ module _ (file : List ℕ) (h : FileHeader) where
   abbrev pub NamesRelocation : ℕ → ℕ → Type 0
   NamesRelocation i off = Entry (length file) (loaderStart file h + loaderOf file h .rldoff) (relocationLayout (h .format) .length) (loaderOf file h .nreloc) i off
 
+  -- where section n's own relocation table starts, as its header says
+  abbrev pub sectionTableStart : ℕ → ℕ
+  sectionTableStart n = sectionHeaderAt (h .format) (sectionStart (h .format) (h .opthdr) 0 + (n - 1) * sectionLayout (h .format) .length) file .relptr .0
+
+  -- an entry of the table, whole in the file; how many there are may stand in an overflow header
+  abbrev pub NamesSectionRelocation : SectionRelocation → ℕ → Type 0
+  NamesSectionRelocation e off =
+      (0 < e .section .0) × (e .section .0 ≤ h .nscns)
+      × Entry (length file) (sectionTableStart (e .section .0)) (entryLength RelocationTable (h .format)) (e .index + 1) (e .index) off
+
   abbrev pub NamesLimit : LimitItem → ℕ → Type 0
   NamesLimit LoaderSymbols off = NamesLoader off
   NamesLimit Relocations off = NamesLoader off
@@ -100,7 +114,10 @@ module _ (file : List ℕ) (h : FileHeader) where
   Names (Loader i) off = NamesLoader off
   Names (Lsym i) off = NamesLoaderSymbol i off
   Names (Lrel i) off = NamesRelocation (i .0) off
+  Names (SectionLrel e) off = NamesSectionRelocation e off
   Names (Overlap i) off = NamesRelocation (i .0) off
+  Names (SectionOverlap e) off = NamesSectionRelocation e off
+  Names (Range e) off = NamesSectionRelocation e off
   Names Short off = off ≡ 0
   Names Magic off = off ≡ 0
   Names (Index i) off = off ≡ 0

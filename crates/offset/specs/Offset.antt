@@ -14,7 +14,8 @@ use Rattle.format.specs.declared.MagicAnswer.the-variants as magic
 use Rattle.format.specs.Layout.{magicField, formatOf, sectionLayout, symbolLength, loaderLayout, loaderSymbolLength, relocationLayout}
 use Rattle.format.specs.Limit.{fileLimit}
 use Rattle.refusal.specs.declared.Refusal.{Refusal}
-use Rattle.refusal.specs.declared.Refusal.the-variants.{Short, Magic, Limit, Kind, Bounds, Address, Strings, Index, Aux, Name, Scnum, Csect, Module, Thread, Loader, Lsym, Lrel, Overlap, Plan, Room, Sheet, Record, Form, Clash, Full, Absent, Long, Shared, Visibility, NoLine, Group}
+use Rattle.refusal.specs.declared.Refusal.the-variants.{Short, Magic, Limit, Kind, Bounds, Address, Strings, Index, Aux, Name, Scnum, Csect, Module, Thread, Loader, Lsym, Lrel, SectionLrel, Overlap, SectionOverlap, Plan, Room, Sheet, Record, Form, Clash, Range, Full, Absent, Long, Shared, Visibility, NoLine, Group}
+use Rattle.refusal.specs.declared.SectionRelocation.{SectionRelocation}
 use Rattle.refusal.specs.declared.LimitItem.{LimitItem}
 use Rattle.refusal.specs.declared.LimitItem.the-variants.{File, Sections, LoaderSymbols, SheetList, Relocations, DataImage, SalvageReport}
 use Rattle.refusal.specs.declared.BoundsItem.{BoundsItem}
@@ -25,6 +26,8 @@ use Rattle.refusal.specs.declared.ThreadItem.{ThreadItem}
 use Rattle.refusal.specs.declared.ThreadItem.the-variants.{ThreadSection, ThreadSymbol}
 use Rattle.refusal.specs.Order.{ifAccepted}
 use Rattle.section.specs.Section.{sectionHeaderAt}
+use Rattle.table_kind.specs.declared.TableKind.the-variants.{Relocations as RelocationTable}
+use Rattle.table_kind.specs.Kind.{entryLength}
 use Rattle.file_header.specs.declared.FileHeader.{FileHeader}
 use Rattle.file_header.specs.Header.{headerAt, sectionStart, headerCheck}
 use Rattle.loader_header.specs.Header.{symbolsOffset, relocationsOffset}
@@ -101,6 +104,13 @@ loaderSymbolPlace s i = entryPlace (s .length) (s .lsyms) loaderSymbolLength (i 
 abbrev pub relocationPlace : Starts → ℕ → ℕ
 relocationPlace s i = entryPlace (s .length) (s .lrels) (relocationLayout (s .format) .length) i
 
+-- where section n's own relocation table starts, by its header: 0 where that is not in the file
+abbrev pub sectionTable : List ℕ → Starts → ℕ → ℕ
+sectionTable file s n = cond (eqb (headerPlace s n) 0) 0 (sectionHeaderAt (s .format) (headerPlace s n) file .relptr .0)
+
+abbrev pub sectionRelocationPlace : List ℕ → Starts → SectionRelocation → ℕ
+sectionRelocationPlace file s e = entryPlace (s .length) (sectionTable file s (e .section .0)) (entryLength RelocationTable (s .format)) (e .index)
+
 abbrev pub limitPlace : Starts → LimitItem → ℕ
 limitPlace s LoaderSymbols = s .loader
 limitPlace s Relocations = s .loader
@@ -125,42 +135,45 @@ threadPlace s (ThreadSection n) = headerPlace s (n .0)
 threadPlace s (ThreadSymbol i) = relocationPlace s (i .0)
 
 -- the first byte of the header or entry that the item names, of the string table for STRINGS, of the loader section for LOADER and a module's LIMIT 2 and 3; 0 for every other
-abbrev pub offsetIn : Starts → Refusal → ℕ
-offsetIn s (Limit i) = limitPlace s i
-offsetIn s (Kind n) = headerPlace s (n .0)
-offsetIn s (Bounds i) = boundsPlace s i
-offsetIn s (Address i) = addressPlace s i
-offsetIn s Strings = s .strings
-offsetIn s (Aux i) = symbolPlace s (i .0)
-offsetIn s (Name i) = symbolPlace s (i .0)
-offsetIn s (Scnum i) = symbolPlace s (i .0)
-offsetIn s (Csect i) = symbolPlace s (i .0)
-offsetIn s (Visibility i) = symbolPlace s (i .0)
-offsetIn s (Thread i) = threadPlace s i
-offsetIn s (Loader i) = s .loader
-offsetIn s (Lsym i) = loaderSymbolPlace s i
-offsetIn s (Lrel i) = relocationPlace s (i .0)
-offsetIn s (Overlap i) = relocationPlace s (i .0)
-offsetIn s Short = 0
-offsetIn s Magic = 0
-offsetIn s (Index i) = 0
-offsetIn s (Module i) = 0
-offsetIn s (Plan i) = 0
-offsetIn s (Room i) = 0
-offsetIn s Sheet = 0
-offsetIn s (Record i) = 0
-offsetIn s Form = 0
-offsetIn s Clash = 0
-offsetIn s Full = 0
-offsetIn s Absent = 0
-offsetIn s Long = 0
-offsetIn s Shared = 0
-offsetIn s NoLine = 0
-offsetIn s Group = 0
+abbrev pub offsetIn : List ℕ → Starts → Refusal → ℕ
+offsetIn file s (Limit i) = limitPlace s i
+offsetIn file s (Kind n) = headerPlace s (n .0)
+offsetIn file s (Bounds i) = boundsPlace s i
+offsetIn file s (Address i) = addressPlace s i
+offsetIn file s Strings = s .strings
+offsetIn file s (Aux i) = symbolPlace s (i .0)
+offsetIn file s (Name i) = symbolPlace s (i .0)
+offsetIn file s (Scnum i) = symbolPlace s (i .0)
+offsetIn file s (Csect i) = symbolPlace s (i .0)
+offsetIn file s (Visibility i) = symbolPlace s (i .0)
+offsetIn file s (Thread i) = threadPlace s i
+offsetIn file s (Loader i) = s .loader
+offsetIn file s (Lsym i) = loaderSymbolPlace s i
+offsetIn file s (Lrel i) = relocationPlace s (i .0)
+offsetIn file s (SectionLrel e) = sectionRelocationPlace file s e
+offsetIn file s (Overlap i) = relocationPlace s (i .0)
+offsetIn file s (SectionOverlap e) = sectionRelocationPlace file s e
+offsetIn file s (Range e) = sectionRelocationPlace file s e
+offsetIn file s Short = 0
+offsetIn file s Magic = 0
+offsetIn file s (Index i) = 0
+offsetIn file s (Module i) = 0
+offsetIn file s (Plan i) = 0
+offsetIn file s (Room i) = 0
+offsetIn file s Sheet = 0
+offsetIn file s (Record i) = 0
+offsetIn file s Form = 0
+offsetIn file s Clash = 0
+offsetIn file s Full = 0
+offsetIn file s Absent = 0
+offsetIn file s Long = 0
+offsetIn file s Shared = 0
+offsetIn file s NoLine = 0
+offsetIn file s Group = 0
 
-abbrev pub offsetBy : StartsAnswer → Refusal → ℕ
-offsetBy Unknown x = 0
-offsetBy (Known s) x = offsetIn s x
+abbrev pub offsetBy : List ℕ → StartsAnswer → Refusal → ℕ
+offsetBy file Unknown x = 0
+offsetBy file (Known s) x = offsetIn file s x
 
 abbrev pub offsetOf : List ℕ → Refusal → ℕ
-offsetOf file x = offsetBy (startsOf file) x
+offsetOf file x = offsetBy file (startsOf file) x

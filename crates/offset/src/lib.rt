@@ -5,7 +5,7 @@ ghost use Prim.Native.Nat.{_-_, _≤_, _<_};
 ghost use lib.ListN.{length};
 ghost use Rattle.format.specs.Limit.{fileLimit};
 ghost use Rattle.file_header.specs.Header.{Bounded, HeaderComplete, headerCheck};
-ghost use Rattle.offset.specs.Offset.{placed, entryPlace, loaderIn, loaderStarts, startsAs, startsOf, headerPlace, symbolPlace, loaderSymbolPlace, relocationPlace, limitPlace, boundsPlace, addressPlace, threadPlace, offsetIn, offsetOf};
+ghost use Rattle.offset.specs.Offset.{placed, entryPlace, loaderIn, loaderStarts, startsAs, startsOf, headerPlace, symbolPlace, loaderSymbolPlace, relocationPlace, sectionTable, sectionRelocationPlace, limitPlace, boundsPlace, addressPlace, threadPlace, offsetIn, offsetOf};
 ghost use Rattle.offset.specs.Report.{refusalHead, reportHead, rangeHead, reportOfRange};
 use file_header::FileHeader;
 use format::Format;
@@ -16,9 +16,11 @@ use refusal::Head;
 use refusal::LimitItem;
 use refusal::RangeAnswer;
 use refusal::Refusal;
+use refusal::SectionRelocation;
 use refusal::ThreadItem;
 use refusal::Verdict;
 use section_kind::SectionKind;
+use table_kind::TableKind;
 
 // Where a file of `length` bytes keeps what items name.
 pub struct Starts {
@@ -198,6 +200,36 @@ fn relocation_place(s: Starts, i: u64) -> u64
     entry_place(s.length, s.lrels, l.length, i)
 }
 
+// Where section `n`'s own relocation table starts, by its header.
+fn section_table(file: &[u8], s: Starts, n: u64) -> u64
+    requires { ⌜ (s .length ≤ fileLimit) × (s .length ≡ length (now file)) ⌝ }
+    ensures { λ r. ⌜ r ≡ sectionTable (now (file .entry)) s n ⌝ }
+{
+    let at = header_place(s, n);
+    if at == 0 {
+        return 0;
+    }
+    let f = s.format;
+    let h = section::read_section_header(file, f, at as usize);
+    let p = h.relptr;
+    p.0
+}
+
+fn section_relocation_place(file: &[u8], s: Starts, e: SectionRelocation) -> u64
+    requires { ⌜ (s .length ≤ fileLimit) × (s .length ≡ length (now file)) ⌝ }
+    ensures { λ r. ⌜ r ≡ sectionRelocationPlace (now (file .entry)) s e ⌝ }
+{
+    let n = e.section;
+    let f = s.format;
+    let start = section_table(file, s, n.0);
+    entry_place(
+        s.length,
+        start,
+        table_kind::entry_length(TableKind::Relocations, f) as u64,
+        e.index,
+    )
+}
+
 fn limit_place(s: Starts, i: LimitItem) -> u64
     ensures { λ r. ⌜ r ≡ limitPlace s i ⌝ }
 {
@@ -244,9 +276,9 @@ fn thread_place(s: Starts, i: ThreadItem) -> u64
     }
 }
 
-fn offset_in(s: Starts, x: Refusal) -> u64
-    requires { ⌜ s .length ≤ fileLimit ⌝ }
-    ensures { λ r. ⌜ r ≡ offsetIn s x ⌝ }
+fn offset_in(file: &[u8], s: Starts, x: Refusal) -> u64
+    requires { ⌜ (s .length ≤ fileLimit) × (s .length ≡ length (now file)) ⌝ }
+    ensures { λ r. ⌜ r ≡ offsetIn (now (file .entry)) s x ⌝ }
 {
     match x {
         Refusal::Limit(i) => limit_place(s, i),
@@ -263,7 +295,10 @@ fn offset_in(s: Starts, x: Refusal) -> u64
         Refusal::Loader(_) => s.loader,
         Refusal::Lsym(i) => loader_symbol_place(s, i),
         Refusal::Lrel(i) => relocation_place(s, i.0),
+        Refusal::SectionLrel(e) => section_relocation_place(file, s, e),
         Refusal::Overlap(i) => relocation_place(s, i.0),
+        Refusal::SectionOverlap(e) => section_relocation_place(file, s, e),
+        Refusal::Range(e) => section_relocation_place(file, s, e),
         Refusal::Short => 0,
         Refusal::Magic => 0,
         Refusal::Index(_) => 0,
@@ -290,7 +325,7 @@ pub fn offset_of(file: &[u8], x: Refusal) -> u64
     let a = find_starts(file);
     match a {
         StartsAnswer::Unknown => 0,
-        StartsAnswer::Known(s) => offset_in(s, x),
+        StartsAnswer::Known(s) => offset_in(file, s, x),
     }
 }
 

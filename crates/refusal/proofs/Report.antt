@@ -4,7 +4,7 @@ use mathlib.Core.Path.{_≡_, refl, ap}
 use mathlib.Core.Bool.{false}
 use lib.Dec.{eqb}
 use Rattle.refusal.specs.declared.Refusal.{Refusal}
-use Rattle.refusal.specs.declared.Refusal.the-variants.{Short, Magic, Limit, Kind, Bounds, Address, Strings, Index, Aux, Name, Scnum, Csect, Module, Thread, Loader, Lsym, Lrel, Overlap, Plan, Room, Sheet, Record, Form, Clash, Full, Absent, Long, Shared, Visibility, NoLine, Group}
+use Rattle.refusal.specs.declared.Refusal.the-variants.{Short, Magic, Limit, Kind, Bounds, Address, Strings, Index, Aux, Name, Scnum, Csect, Module, Thread, Loader, Lsym, Lrel, SectionLrel, Overlap, SectionOverlap, Plan, Room, Sheet, Record, Form, Clash, Range, Full, Absent, Long, Shared, Visibility, NoLine, Group}
 use Rattle.refusal.specs.Refusal.{numberOf}
 
 -- an answer that is as promised has the report that is promised
@@ -37,6 +37,9 @@ number-not-zero Sheet = refl
 number-not-zero (Record i) = refl
 number-not-zero Form = refl
 number-not-zero Clash = refl
+number-not-zero (SectionLrel e) = refl
+number-not-zero (SectionOverlap e) = refl
+number-not-zero (Range e) = refl
 number-not-zero Full = refl
 number-not-zero Absent = refl
 number-not-zero Long = refl

@@ -16,11 +16,11 @@ use Rattle.refusal.specs.declared.ThreadItem.the-variants.{ThreadSection
 use Rattle.refusal.specs.declared.LoaderItem.{LoaderItem}
 use Rattle.refusal.specs.declared.LoaderItem.the-variants.{ShortHeader, Version, SymbolsPast, RelocationsPast, ImportIdsPast, StringsPast}
 use Rattle.refusal.specs.declared.PlanItem.{PlanItem}
-use Rattle.refusal.specs.declared.PlanItem.the-variants.{TextAddress, DataAddress, ImportAddress}
+use Rattle.refusal.specs.declared.PlanItem.the-variants.{TextAddress, DataAddress, ImportAddress, SectionAddress}
 use Rattle.refusal.specs.declared.RoomItem.{RoomItem}
-use Rattle.refusal.specs.declared.RoomItem.the-variants.{TextBuffer, SheetBuffer, RowBuffer, RecordBuffer, FileBuffer, DataBuffer, AddressList}
+use Rattle.refusal.specs.declared.RoomItem.the-variants.{TextBuffer, SheetBuffer, RowBuffer, RecordBuffer, ObjectBuffer, FileBuffer, DataBuffer, AddressList}
 use Rattle.refusal.specs.declared.Refusal.{Refusal}
-use Rattle.refusal.specs.declared.Refusal.the-variants.{Short, Magic, Limit, Kind, Bounds, Address, Strings, Index, Aux, Name, Scnum, Csect, Module, Thread, Loader, Lsym, Lrel, Overlap, Plan, Room, Sheet, Record, Form, Clash, Full, Absent, Long, Shared, Visibility, NoLine, Group}
+use Rattle.refusal.specs.declared.Refusal.the-variants.{Short, Magic, Limit, Kind, Bounds, Address, Strings, Index, Aux, Name, Scnum, Csect, Module, Thread, Loader, Lsym, Lrel, SectionLrel, Overlap, SectionOverlap, Plan, Room, Sheet, Record, Form, Clash, Range, Full, Absent, Long, Shared, Visibility, NoLine, Group}
 use Rattle.refusal.specs.declared.Head.{Head}
 use Rattle.refusal.specs.declared.Verdict.{Verdict}
 use Rattle.refusal.specs.declared.Verdict.the-variants.{Accepted, Refused}
@@ -44,13 +44,16 @@ numberOf (Thread i) = 14
 numberOf (Loader i) = 15
 numberOf (Lsym i) = 16
 numberOf (Lrel i) = 17
+numberOf (SectionLrel e) = 17
 numberOf (Overlap i) = 18
+numberOf (SectionOverlap e) = 18
 numberOf (Plan i) = 19
 numberOf (Room i) = 20
 numberOf Sheet = 21
 numberOf (Record i) = 22
 numberOf Form = 23
 numberOf Clash = 24
+numberOf (Range e) = 25
 numberOf Full = 26
 numberOf Absent = 27
 numberOf Long = 28
@@ -109,12 +112,14 @@ abbrev pub planItem : PlanItem → ℕ
 planItem TextAddress = 0
 planItem DataAddress = 1
 planItem (ImportAddress i) = i
+planItem (SectionAddress i) = i .0
 
 abbrev pub roomItem : RoomItem → ℕ
 roomItem TextBuffer = 0
 roomItem SheetBuffer = 0
 roomItem RowBuffer = 0
 roomItem RecordBuffer = 0
+roomItem ObjectBuffer = 0
 roomItem FileBuffer = 0
 roomItem DataBuffer = 1
 roomItem AddressList = 2
@@ -138,13 +143,16 @@ itemOf (Thread i) = threadItem i
 itemOf (Loader i) = loaderItem i
 itemOf (Lsym i) = i
 itemOf (Lrel i) = i .0
+itemOf (SectionLrel e) = e .number
 itemOf (Overlap i) = i .0
+itemOf (SectionOverlap e) = e .number
 itemOf (Plan i) = planItem i
 itemOf (Room i) = roomItem i
 itemOf Sheet = 0
 itemOf (Record i) = i
 itemOf Form = 0
 itemOf Clash = 0
+itemOf (Range e) = e .number
 itemOf Full = 0
 itemOf Absent = 0
 itemOf Long = 0

@@ -57,6 +57,14 @@ pub enum ModuleItem {
 // A relocation entry of the loader section, from 0: an entry's number alone does not say which table it is in.
 pub struct LoaderRelocation(pub u64);
 
+// A relocation entry in a section's own table: the section, the entry's index in its table, and its number, which runs on from
+// table to table, both from 0.
+pub struct SectionRelocation {
+    pub section: SectionNumber,
+    pub index: u64,
+    pub number: u64,
+}
+
 // 14 THREAD: a tdata or tbss section, or a relocation entry with symbol index -1 or -2.
 pub enum ThreadItem {
     ThreadSection(SectionNumber),
@@ -73,11 +81,12 @@ pub enum LoaderItem {
     StringsPast,
 }
 
-// 19 PLAN: the address that does not fit; an import by its loader symbol, from 3.
+// 19 PLAN: the address that does not fit; an import by its loader symbol, from 3; of an object file a section.
 pub enum PlanItem {
     TextAddress,
     DataAddress,
     ImportAddress(u64),
+    SectionAddress(SectionNumber),
 }
 
 // 20 ROOM: the lent buffer that is not exactly as long as needed.
@@ -88,13 +97,15 @@ pub enum RoomItem {
     RowBuffer,
     // the record text, judged after both images
     RecordBuffer,
+    // an object file's text and data sections, end to end
+    ObjectBuffer,
     // a whole file: a module written for a plan, or a salvaged copy
     FileBuffer,
     DataBuffer,
     AddressList,
 }
 
-// In the order of the numbers, 1 SHORT to 24 CLASH and 26 FULL to 32 GROUP.
+// In the order of the numbers, 1 SHORT to 32 GROUP.
 pub enum Refusal {
     // the file or header area ends early
     Short,
@@ -121,8 +132,11 @@ pub enum Refusal {
     // a loader symbol, from 3
     Lsym(u64),
     Lrel(LoaderRelocation),
+    // of an entry in a section's own table
+    SectionLrel(SectionRelocation),
     // the later of two relocation entries
     Overlap(LoaderRelocation),
+    SectionOverlap(SectionRelocation),
     Plan(PlanItem),
     Room(RoomItem),
     // a malformed plan sheet
@@ -133,6 +147,8 @@ pub enum Refusal {
     Form,
     // text and data share an address
     Clash,
+    // the first entry on a branch whose sum is out of range
+    Range(SectionRelocation),
     // all rows of the address table are taken
     Full,
     // no such row of the address table
@@ -257,6 +273,7 @@ fn plan_item(x: PlanItem) -> u64
         PlanItem::TextAddress => 0,
         PlanItem::DataAddress => 1,
         PlanItem::ImportAddress(i) => i,
+        PlanItem::SectionAddress(n) => n.0,
     }
 }
 
@@ -268,6 +285,7 @@ fn room_item(x: RoomItem) -> u64
         RoomItem::SheetBuffer => 0,
         RoomItem::RowBuffer => 0,
         RoomItem::RecordBuffer => 0,
+        RoomItem::ObjectBuffer => 0,
         RoomItem::FileBuffer => 0,
         RoomItem::DataBuffer => 1,
         RoomItem::AddressList => 2,
@@ -296,13 +314,16 @@ pub fn number(x: Refusal) -> u64
         Refusal::Loader(_) => 15,
         Refusal::Lsym(_) => 16,
         Refusal::Lrel(_) => 17,
+        Refusal::SectionLrel(_) => 17,
         Refusal::Overlap(_) => 18,
+        Refusal::SectionOverlap(_) => 18,
         Refusal::Plan(_) => 19,
         Refusal::Room(_) => 20,
         Refusal::Sheet => 21,
         Refusal::Record(_) => 22,
         Refusal::Form => 23,
         Refusal::Clash => 24,
+        Refusal::Range(_) => 25,
         Refusal::Full => 26,
         Refusal::Absent => 27,
         Refusal::Long => 28,
@@ -335,13 +356,16 @@ pub fn item(x: Refusal) -> u64
         Refusal::Loader(i) => loader_item(i),
         Refusal::Lsym(i) => i,
         Refusal::Lrel(i) => i.0,
+        Refusal::SectionLrel(e) => e.number,
         Refusal::Overlap(i) => i.0,
+        Refusal::SectionOverlap(e) => e.number,
         Refusal::Plan(i) => plan_item(i),
         Refusal::Room(i) => room_item(i),
         Refusal::Sheet => 0,
         Refusal::Record(i) => i,
         Refusal::Form => 0,
         Refusal::Clash => 0,
+        Refusal::Range(e) => e.number,
         Refusal::Full => 0,
         Refusal::Absent => 0,
         Refusal::Long => 0,

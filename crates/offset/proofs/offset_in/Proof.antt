@@ -84,8 +84,26 @@ relocation-place-requires c κs = search needs
 enum-known-x-13 : tie.Need-enum-known-x-13
 enum-known-x-13 c = search needs
 
+section-relocation-place-requires : tie.Need-section-relocation-place-requires
+section-relocation-place-requires c κs = search needs
+
+enum-known-x-14 : tie.Need-enum-known-x-14
+enum-known-x-14 c = search needs
+
 relocation-place-requires-2 : tie.Need-relocation-place-requires-2
 relocation-place-requires-2 c κs = search needs
+
+enum-known-x-15 : tie.Need-enum-known-x-15
+enum-known-x-15 c = search needs
+
+section-relocation-place-requires-2 : tie.Need-section-relocation-place-requires-2
+section-relocation-place-requires-2 c κs = search needs
+
+enum-known-x-16 : tie.Need-enum-known-x-16
+enum-known-x-16 c = search needs
+
+section-relocation-place-requires-3 : tie.Need-section-relocation-place-requires-3
+section-relocation-place-requires-3 c κs = search needs
 
 enum-told-3 : tie.Need-enum-told-3
 enum-told-3 c = search needs
@@ -178,55 +196,64 @@ returns-14 : tie.Need-returns-14
 returns-14 c = rw (c .before .before .x12 .given .1) (c .relocation-place .ensures)
 
 returns-15 : tie.Need-returns-15
-returns-15 c = rw (c .before .before .x13 .given .1) (c .relocation-place2 .ensures)
+returns-15 c = rw (c .before .before .x13 .given .1) (c .section-relocation-place .ensures)
 
 returns-16 : tie.Need-returns-16
-returns-16 c = rw (c .enum-told3 .given .1) refl
+returns-16 c = rw (c .before .before .x14 .given .1) (c .relocation-place2 .ensures)
 
 returns-17 : tie.Need-returns-17
-returns-17 c = rw (c .enum-told4 .given .1) refl
+returns-17 c = rw (c .before .before .x15 .given .1) (c .section-relocation-place2 .ensures)
 
 returns-18 : tie.Need-returns-18
-returns-18 c = rw (c .enum-told5 .given .1) refl
+returns-18 c = rw (c .before .before .x16 .given .1) (c .section-relocation-place3 .ensures)
 
 returns-19 : tie.Need-returns-19
-returns-19 c = rw (c .enum-told6 .given .1) refl
+returns-19 c = rw (c .enum-told3 .given .1) refl
 
 returns-20 : tie.Need-returns-20
-returns-20 c = rw (c .enum-told7 .given .1) refl
+returns-20 c = rw (c .enum-told4 .given .1) refl
 
 returns-21 : tie.Need-returns-21
-returns-21 c = rw (c .enum-told8 .given .1) refl
+returns-21 c = rw (c .enum-told5 .given .1) refl
 
 returns-22 : tie.Need-returns-22
-returns-22 c = rw (c .enum-told9 .given .1) refl
+returns-22 c = rw (c .enum-told6 .given .1) refl
 
 returns-23 : tie.Need-returns-23
-returns-23 c = rw (c .enum-told10 .given .1) refl
+returns-23 c = rw (c .enum-told7 .given .1) refl
 
 returns-24 : tie.Need-returns-24
-returns-24 c = rw (c .enum-told11 .given .1) refl
+returns-24 c = rw (c .enum-told8 .given .1) refl
 
 returns-25 : tie.Need-returns-25
-returns-25 c = rw (c .enum-told12 .given .1) refl
+returns-25 c = rw (c .enum-told9 .given .1) refl
 
 returns-26 : tie.Need-returns-26
-returns-26 c = rw (c .enum-told13 .given .1) refl
+returns-26 c = rw (c .enum-told10 .given .1) refl
 
 returns-27 : tie.Need-returns-27
-returns-27 c = rw (c .enum-told14 .given .1) refl
+returns-27 c = rw (c .enum-told11 .given .1) refl
 
 returns-28 : tie.Need-returns-28
-returns-28 c = rw (c .enum-told15 .given .1) refl
+returns-28 c = rw (c .enum-told12 .given .1) refl
 
 returns-29 : tie.Need-returns-29
-returns-29 c = rw (c .enum-told16 .given .1) refl
+returns-29 c = rw (c .enum-told13 .given .1) refl
 
 returns-30 : tie.Need-returns-30
-returns-30 c = rw (c .enum-told17 .given .1) refl
+returns-30 c = rw (c .enum-told14 .given .1) refl
 
 returns-31 : tie.Need-returns-31
-returns-31 c = rw (c .enum-told18 .given .1) refl
+returns-31 c = rw (c .enum-told15 .given .1) refl
+
+returns-32 : tie.Need-returns-32
+returns-32 c = rw (c .enum-told16 .given .1) refl
+
+returns-33 : tie.Need-returns-33
+returns-33 c = rw (c .enum-told17 .given .1) refl
+
+returns-34 : tie.Need-returns-34
+returns-34 c = rw (c .enum-told18 .given .1) refl
 
 pub offset-in-spec : {M : Type 1} → statement M
 offset-in-spec =
@@ -259,7 +286,13 @@ offset-in-spec =
     enum-known-x-12
     relocation-place-requires
     enum-known-x-13
+    section-relocation-place-requires
+    enum-known-x-14
     relocation-place-requires-2
+    enum-known-x-15
+    section-relocation-place-requires-2
+    enum-known-x-16
+    section-relocation-place-requires-3
     enum-told-3
     enum-told-4
     enum-told-5
@@ -306,4 +339,7 @@ offset-in-spec =
     returns-28
     returns-29
     returns-30
-    returns-31)
+    returns-31
+    returns-32
+    returns-33
+    returns-34)

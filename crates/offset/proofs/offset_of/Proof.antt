@@ -1,6 +1,7 @@
 use mathlib.Core.Path.{refl}
 use Rattle.word.proofs.Test.{found}
 use Rattle.offset.proofs.Found.{known-small}
+use Rattle.offset.proofs.Inside.{known-length}
 use borrow.Author.Needs.{needs}
 use Rattle.offset.proofs.offset_of.Statement.{statement}
 use Rattle.offset.proofs.offset_of.Tie as tie
@@ -15,7 +16,10 @@ enum-known-a : tie.Need-enum-known-a
 enum-known-a c = search needs
 
 offset-in-requires : tie.Need-offset-in-requires
-offset-in-requires c κs = let a = c .before .before .before .before .before .args in known-small (a .file .now) (found (c .before .before .before .find-starts .ensures) (c .before .a .given .1))
+offset-in-requires c κs =
+    let a = c .before .before .before .before .before .args in
+    let e = found (c .before .before .before .find-starts .ensures) (c .before .a .given .1) in
+    (known-small (a .file .now) e, known-length (a .file .now) e)
 
 returns : tie.Need-returns
 returns c = rw (← c .before .before .find-starts .ensures, c .enum-told .given .1) refl

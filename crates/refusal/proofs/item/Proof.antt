@@ -1,6 +1,17 @@
 use borrow.Author.Needs.{needs}
 use Rattle.refusal.proofs.item.Statement.{statement}
 use Rattle.refusal.proofs.item.Tie as tie
+use Rattle.refusal.proofs.item.Reads as reads
+use Rattle.refusal.proofs.item.Lts as lts
+use Rattle.refusal.proofs.address_item.Reads as address-item-reads
+use Rattle.refusal.proofs.bounds_item.Reads as bounds-item-reads
+use Rattle.refusal.proofs.index_item.Reads as index-item-reads
+use Rattle.refusal.proofs.limit_item.Reads as limit-item-reads
+use Rattle.refusal.proofs.loader_item.Reads as loader-item-reads
+use Rattle.refusal.proofs.module_item.Reads as module-item-reads
+use Rattle.refusal.proofs.plan_item.Reads as plan-item-reads
+use Rattle.refusal.proofs.room_item.Reads as room-item-reads
+use Rattle.refusal.proofs.thread_item.Reads as thread-item-reads
 
 enum-told : tie.Need-enum-told
 enum-told c = search needs
@@ -80,11 +91,17 @@ enum-known-x-15 c = search needs
 enum-known-x-16 : tie.Need-enum-known-x-16
 enum-known-x-16 c = search needs
 
+enum-known-x-17 : tie.Need-enum-known-x-17
+enum-known-x-17 c = search needs
+
+enum-known-x-18 : tie.Need-enum-known-x-18
+enum-known-x-18 c = search needs
+
 plan-item-requires : tie.Need-plan-item-requires
 plan-item-requires c κs = search needs
 
-enum-known-x-17 : tie.Need-enum-known-x-17
-enum-known-x-17 c = search needs
+enum-known-x-19 : tie.Need-enum-known-x-19
+enum-known-x-19 c = search needs
 
 room-item-requires : tie.Need-room-item-requires
 room-item-requires c κs = search needs
@@ -92,14 +109,17 @@ room-item-requires c κs = search needs
 enum-told-4 : tie.Need-enum-told-4
 enum-told-4 c = search needs
 
-enum-known-x-18 : tie.Need-enum-known-x-18
-enum-known-x-18 c = search needs
+enum-known-x-20 : tie.Need-enum-known-x-20
+enum-known-x-20 c = search needs
 
 enum-told-5 : tie.Need-enum-told-5
 enum-told-5 c = search needs
 
 enum-told-6 : tie.Need-enum-told-6
 enum-told-6 c = search needs
+
+enum-known-x-21 : tie.Need-enum-known-x-21
+enum-known-x-21 c = search needs
 
 enum-told-7 : tie.Need-enum-told-7
 enum-told-7 c = search needs
@@ -113,8 +133,8 @@ enum-told-9 c = search needs
 enum-told-10 : tie.Need-enum-told-10
 enum-told-10 c = search needs
 
-enum-known-x-19 : tie.Need-enum-known-x-19
-enum-known-x-19 c = search needs
+enum-known-x-22 : tie.Need-enum-known-x-22
+enum-known-x-22 c = search needs
 
 enum-told-11 : tie.Need-enum-told-11
 enum-told-11 c = search needs
@@ -177,43 +197,52 @@ returns-18 : tie.Need-returns-18
 returns-18 c = rw (c .before .x15 .given .1)
 
 returns-19 : tie.Need-returns-19
-returns-19 c = rw (c .before .before .x16 .given .1) (c .plan-item .ensures)
+returns-19 c = rw (c .before .x16 .given .1)
 
 returns-20 : tie.Need-returns-20
-returns-20 c = rw (c .before .before .x17 .given .1) (c .room-item .ensures)
+returns-20 c = rw (c .before .x17 .given .1)
 
 returns-21 : tie.Need-returns-21
-returns-21 c = rw (c .enum-told4 .given .1)
+returns-21 c = rw (c .before .before .x18 .given .1) (c .plan-item .ensures)
 
 returns-22 : tie.Need-returns-22
-returns-22 c = rw (c .before .x18 .given .1)
+returns-22 c = rw (c .before .before .x19 .given .1) (c .room-item .ensures)
 
 returns-23 : tie.Need-returns-23
-returns-23 c = rw (c .enum-told5 .given .1)
+returns-23 c = rw (c .enum-told4 .given .1)
 
 returns-24 : tie.Need-returns-24
-returns-24 c = rw (c .enum-told6 .given .1)
+returns-24 c = rw (c .before .x20 .given .1)
 
 returns-25 : tie.Need-returns-25
-returns-25 c = rw (c .enum-told7 .given .1)
+returns-25 c = rw (c .enum-told5 .given .1)
 
 returns-26 : tie.Need-returns-26
-returns-26 c = rw (c .enum-told8 .given .1)
+returns-26 c = rw (c .enum-told6 .given .1)
 
 returns-27 : tie.Need-returns-27
-returns-27 c = rw (c .enum-told9 .given .1)
+returns-27 c = rw (c .before .x21 .given .1)
 
 returns-28 : tie.Need-returns-28
-returns-28 c = rw (c .enum-told10 .given .1)
+returns-28 c = rw (c .enum-told7 .given .1)
 
 returns-29 : tie.Need-returns-29
-returns-29 c = rw (c .before .x19 .given .1)
+returns-29 c = rw (c .enum-told8 .given .1)
 
 returns-30 : tie.Need-returns-30
-returns-30 c = rw (c .enum-told11 .given .1)
+returns-30 c = rw (c .enum-told9 .given .1)
 
 returns-31 : tie.Need-returns-31
-returns-31 c = rw (c .enum-told12 .given .1)
+returns-31 c = rw (c .enum-told10 .given .1)
+
+returns-32 : tie.Need-returns-32
+returns-32 c = rw (c .before .x22 .given .1)
+
+returns-33 : tie.Need-returns-33
+returns-33 c = rw (c .enum-told11 .given .1)
+
+returns-34 : tie.Need-returns-34
+returns-34 c = rw (c .enum-told12 .given .1)
 
 pub item-spec : {M : Type 1} → statement M
 item-spec =
@@ -245,18 +274,21 @@ item-spec =
     enum-known-x-14
     enum-known-x-15
     enum-known-x-16
-    plan-item-requires
     enum-known-x-17
+    enum-known-x-18
+    plan-item-requires
+    enum-known-x-19
     room-item-requires
     enum-told-4
-    enum-known-x-18
+    enum-known-x-20
     enum-told-5
     enum-told-6
+    enum-known-x-21
     enum-told-7
     enum-told-8
     enum-told-9
     enum-told-10
-    enum-known-x-19
+    enum-known-x-22
     enum-told-11
     enum-told-12
     returns
@@ -289,4 +321,7 @@ item-spec =
     returns-28
     returns-29
     returns-30
-    returns-31)
+    returns-31
+    returns-32
+    returns-33
+    returns-34)

@@ -1,0 +1,2 @@
+-- What the contracts of `branch` cite.
+pub mod Branch

@@ -1,0 +1,3 @@
+-- Laws of kinds of field.
+pub mod Laws
+pub mod Word

@@ -1,0 +1,2 @@
+-- What the contracts of `field_kind` cite.
+pub mod Field

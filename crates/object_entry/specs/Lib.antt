@@ -1,0 +1,2 @@
+-- What the contracts of `object_entry` cite.
+pub mod Entry

@@ -1,0 +1,3 @@
+-- The order of the entries' refusals, and what accepted ones guarantee.
+pub mod Order
+pub mod Accepted

@@ -1,0 +1,2 @@
+-- What the contracts of `section_entries` cite.
+pub mod Entries

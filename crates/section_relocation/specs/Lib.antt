@@ -1,0 +1,2 @@
+-- What the contracts of `section_relocation` cite.
+pub mod Entry
