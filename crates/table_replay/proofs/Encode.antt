@@ -1,0 +1,1 @@
+-- Every list of the request's calls is the list of a script: the one that `encode` gives.
