@@ -12,14 +12,14 @@ use Rattle.address_book.specs.Call.{Places, Call, Answer, numberOf, answerIn, a
 use Rattle.address_book.specs.Run.{run, answers}
 use Rattle.address_table.specs.Table.{bookOf, contentsAfter}
 use Rattle.address_table.specs.Run.{contentsRun}
-use Rattle.address_table.proofs.Runs.{book-after, book-run}
+use Rattle.address_table.proofs.Runs.{book-after}
 use Rattle.address_fill.specs.Fill.{placesAt}
 use Rattle.table_replay.specs.declared.TableReplayAnswer.{TableReplayAnswer}
 use Rattle.table_replay.specs.Script.{callEnd, callAt, callsFrom, callsOf, scriptCalls}
 use Rattle.table_replay.specs.Answer.{acceptedOne, acceptedAmong, lastTold, replayAnswer, listAfter, listRun, reportOfReplay}
 use Rattle.table_replay.proofs.Ends.{call-longer}
 use Rattle.table_replay.proofs.Made.{MadeAt, byte-call}
-use Rattle.table_replay.proofs.Calls.{calls-none, calls-on, byte-script}
+use Rattle.table_replay.proofs.Calls.{calls-none, calls-on}
 
 -- ---- counting
 
@@ -62,6 +62,7 @@ module _ (p : Places) (given : ℕ) (s : List ℕ) where
   -- what the calls from a place on answer after t, and leave of table m and list l, is what the whole script answers and leaves of n and k
   pub record Left (at : ℕ) (t : TableReplayAnswer) (m l n k : List ℕ) : Type 0 where
     pub answer : continued t (answers (callsFrom p given (length s) s at) (bookOf m)) ≡ replayAnswer (callsOf p given s) (bookOf n)
+    pub rows : run (callsFrom p given (length s) s at) (bookOf m) ≡ run (callsOf p given s) (bookOf n)
     pub contents : contentsRun (callsFrom p given (length s) s at) m ≡ contentsRun (callsOf p given s) n
     pub list : listRun (callsFrom p given (length s) s at) (bookOf m) l ≡ listRun (callsOf p given s) (bookOf n) k
 
@@ -70,29 +71,31 @@ module _ (p : Places) (given : ℕ) (s : List ℕ) where
   unfolding callsOf replayAnswer
   left-first n k =
       let bs : List Answer = answers (callsOf p given s) (bookOf n) in
-      record { answer = rw (zero-add (length bs), zero-add (acceptedAmong bs), answers-length (callsOf p given s) (bookOf n)) refl; contents = refl; list = refl }
+      record { answer = rw (zero-add (length bs), zero-add (acceptedAmong bs), answers-length (callsOf p given s) (bookOf n)) refl; rows = refl; contents = refl; list = refl }
 
   -- where no call is, nothing is left
-  left-none : (at : ℕ) (t : TableReplayAnswer) (m l n k : List ℕ) → callEnd s at ≡ 0 → Left at t m l n k → (t ≡ replayAnswer (callsOf p given s) (bookOf n)) × ((m ≡ contentsRun (callsOf p given s) n) × (l ≡ listRun (callsOf p given s) (bookOf n) k))
-  unfolding answers contentsRun listRun
+  left-none : (at : ℕ) (t : TableReplayAnswer) (m l n k : List ℕ) → callEnd s at ≡ 0 → Left at t m l n k → (t ≡ replayAnswer (callsOf p given s) (bookOf n)) × ((bookOf m ≡ run (callsOf p given s) (bookOf n)) × ((m ≡ contentsRun (callsOf p given s) n) × (l ≡ listRun (callsOf p given s) (bookOf n) k)))
+  unfolding answers run contentsRun listRun
   left-none at t m l n k e h =
       let none = sym (calls-none p given s (length s) at e) in (
         continued-none t ∙ ap (λ (cs : List Call). continued t (answers cs (bookOf m))) none ∙ h .answer,
-        (ap (λ (cs : List Call). contentsRun cs m) none ∙ h .contents, ap (λ (cs : List Call). listRun cs (bookOf m) l) none ∙ h .list),
+        (ap (λ (cs : List Call). run cs (bookOf m)) none ∙ h .rows, (ap (λ (cs : List Call). contentsRun cs m) none ∙ h .contents, ap (λ (cs : List Call). listRun cs (bookOf m) l) none ∙ h .list)),
       )
 
   -- one call is made, and counted; those from its end are left
-  pub left-next : (at e calls accepted v : ℕ) (last a : NumberAnswer) (m o l q n k : List ℕ) → length m ≡ 4097 → e ≡ callEnd s at → (e ≡ 0 → ⊥)
-      → MadeAt m o l q (callAt p given s at) a → v ≡ acceptedOne a → Left at (answered calls accepted last) m l n k
+  pub left-next : (at e g calls accepted v : ℕ) (last a : NumberAnswer) (m o l q n k : List ℕ) → length m ≡ 4097 → e ≡ callEnd s at → (e ≡ 0 → ⊥)
+      → g ≡ given → MadeAt m o l q (callAt p g s at) a → v ≡ acceptedOne a → Left at (answered calls accepted last) m l n k
       → Left e (answered (calls + 1) (accepted + v) a) o q n k
-  unfolding answers contentsRun listRun answerIn
-  left-next at e calls accepted v last a m o l q n k size x nz made c h =
+  unfolding answers run contentsRun listRun answerIn
+  left-next at e g calls accepted v last a m o l q n k size x nz eg given-made c h =
+      let made : MadeAt m o l q (callAt p given s at) a = rw eg at given-made in
       let on = sym (calls-on p given s at (λ z. nz (x ∙ z))) in
       let book : bookOf o ≡ after (bookOf m) (callAt p given s at) = ap bookOf (made .1 .0) ∙ book-after m (callAt p given s at) size (byte-call p given s at) in
       record {
         answer =
             rw (c, x, book, made .0)
             (continued-more (answered calls accepted last) _ _ ∙ ap (λ (cs : List Call). continued (answered calls accepted last) (answers cs (bookOf m))) on ∙ h .answer);
+        rows = rw (x, book) (ap (λ (cs : List Call). run cs (bookOf m)) on ∙ h .rows);
         contents = rw (x, made .1 .0) (ap (λ (cs : List Call). contentsRun cs m) on ∙ h .contents);
         list = rw (x, book, made .1 .1) (ap (λ (cs : List Call). listRun cs (bookOf m) l) on ∙ h .list);
       }
@@ -106,11 +109,10 @@ counted-bounds s at e calls accepted n a p nz c v =
     (omega arith, omega arith)
 
 -- where no call is, the script is run: what it answers, and leaves, in the words of the contract
-pub replayed : (file s : List ℕ) (at : ℕ) (t : TableReplayAnswer) (m l n k : List ℕ) → length n ≡ 4097 → callEnd s at ≡ 0 → Left (placesAt file) (length k) s at t m l n k
+pub replayed : (file s : List ℕ) (at : ℕ) (t : TableReplayAnswer) (m l n k : List ℕ) → callEnd s at ≡ 0 → Left (placesAt file) (length k) s at t m l n k
     → (t ≡ replayAnswer (scriptCalls file k s) (bookOf n))
     × ((reportOfReplay file t ≡ reportOfReplay file (replayAnswer (scriptCalls file k s) (bookOf n)))
     × ((bookOf m ≡ run (scriptCalls file k s) (bookOf n)) × ((m ≡ contentsRun (scriptCalls file k s) n) × (l ≡ listRun (scriptCalls file k s) (bookOf n) k))))
-replayed file s at t m l n k size e h =
+replayed file s at t m l n k e h =
     let x = left-none (placesAt file) (length k) s at t m l n k e h in
-    let rows = ap bookOf (x .1 .0) ∙ book-run (scriptCalls file k s) n size (byte-script (placesAt file) (length k) s) in
-    (x .0, (ap (reportOfReplay file) (x .0), (rows, (x .1 .0, x .1 .1))))
+    (x .0, (ap (reportOfReplay file) (x .0), x .1))

@@ -6,7 +6,8 @@ use Prim.Native.Nat.{ℕ, _+_, _≤_, _<_}
 use native.Mathlib.Omega.{arith}
 use borrow.Author.Tests.{eq-eqb, ne-eqb, lt-ltb, le-ltb, ltb-true, ltb-false}
 use lib.Dec.{eqb, ltb}
-use lib.ListN.{length, getD}
+use lib.ListN.{length, getD, take, replicate}
+use lib.Seq.{sets}
 use Rattle.refusal.specs.declared.Refusal.the-variants as refusal
 use Rattle.refusal.specs.declared.Verdict.{Verdict}
 use Rattle.refusal.specs.declared.Verdict.the-variants.{Accepted, Refused}
@@ -22,7 +23,7 @@ use Rattle.address_table.specs.Table.{bookOf, contentsApplied, contentsAfter}
 use Rattle.address_table.specs.Run.{ByteName}
 use Rattle.table_replay.specs.Script.{nameLength, bytesAt, keyAt, rowCall, callAt}
 use Rattle.table_replay.specs.Answer.{listAfter}
-use Rattle.table_replay.proofs.Names.{bytes-name, length-name}
+use Rattle.table_replay.proofs.Names.{bytes-name, length-name, stored-front}
 
 -- a call on a table m is answered by r, and leaves o
 abbrev pub Made : List ℕ → List ℕ → Call → NumberAnswer → Type 0
@@ -125,6 +126,26 @@ made-cut m s k n f a from c l h e d =
     let y = length-name s from l h in
     let z = long-alike m k n f (bytesAt s from c) (bytesAt s from l) a (omega arith) (omega arith) in
     (d .0 ∙ z .0, d .1 ∙ z .1))
+
+cut-bounds : (c l : ℕ) → c ≡ cond (ltb l 33) l 33 → (c ≤ 33) × (c ≤ l)
+cut-bounds c l e =
+    cases (ltb l 33)
+    (λ t. let q : c ≡ l = rw t at e in let h = ltb-true l 33 t in (omega arith, omega arith))
+    (λ t. let q : c ≡ 33 = rw t at e in let h = ltb-false l 33 t in (omega arith, omega arith))
+
+-- the part of a name that is read is in the script
+pub cut-inside : (s : List ℕ) (at c l : ℕ) → at + 4 + nameLength s at ≤ length s → l ≡ nameLength s at → c ≡ cond (ltb l 33) l 33 → (c ≤ 33) × (at + 4 + c ≤ length s)
+cut-inside s at c l h e d = let b = cut-bounds c l d in (b .0, omega arith)
+
+-- a call by what was read of a script is the call that is there
+pub made-read : (m s : List ℕ) (at k n f a c l : ℕ) (bytes : List ℕ) {o : List ℕ} {r : NumberAnswer} → at + 4 + nameLength s at ≤ length s → l ≡ nameLength s at → c ≡ cond (ltb l 33) l 33 → bytes ≡ sets (replicate 33 0) 0 (bytesAt s (at + 4) c) → k ≡ getD s at 0 → n ≡ getD s (at + 1) 0 → f ≡ getD s (at + 2) 0 → a ≡ getD s (at + 4 + l) 0 → Made m o (rowCall k (key n f (take c bytes)) a) r → Made m o (rowCall (getD s at 0) (keyAt s at) (getD s (at + 4 + nameLength s at) 0)) r
+unfolding keyAt
+made-read m s at k n f a c l bytes h el ec eb ek en ef ea made =
+    let in-script = cut-inside s at c l h el ec in
+    let front : take c bytes ≡ bytesAt s (at + 4) c = ap (take c) eb ∙ stored-front s (at + 4) c (in-script .1) (in-script .0) in
+    let short = by-call m (ap (λ (x : List ℕ). rowCall k (key n f x) a) front) made in
+    let long = made-cut m s k n f a (at + 4) c l (omega arith) ec short in
+    by-call m (rw (ek, en, ef, ea, el) refl) long
 
 -- ---- the call at a place
 

@@ -162,6 +162,13 @@ fn call_row_at(table: &mut [u64; 4097], s: &[u64], at: usize) -> NumberAnswer
     call_row(table, kind, bench, file_id, name, address)
 }
 
+// How many numbers a table has. Lent as a slice it is known to have 4097, which the laws of its rows ask for.
+fn table_numbers(table: &[u64]) -> usize
+    ensures { λ r. ⌜ r ≡ length (now (table .entry)) ⌝ }
+{
+    table.len()
+}
+
 // Makes the call at a place.
 fn call_at(
     file: &[u8],
@@ -174,7 +181,9 @@ fn call_at(
     ensures answer { λ r. ⌜ r ≡ numberOf (bookOf (now (table .entry))) (callAt (placesAt (now (file .entry))) (length (now (list .entry))) (now (s .entry)) at) ⌝ }
     ensures table { λ _. ⌜ now (table .exit) ≡ contentsAfter (now (table .entry)) (callAt (placesAt (now (file .entry))) (length (now (list .entry))) (now (s .entry)) at) ⌝ }
     ensures list { λ _. ⌜ now (list .exit) ≡ listAfter (bookOf (now (table .entry))) (callAt (placesAt (now (file .entry))) (length (now (list .entry))) (now (s .entry)) at) (now (list .entry)) ⌝ }
+    ensures whole { λ _. ⌜ length (now (table .entry)) ≡ 4097 ⌝ }
 {
+    let _numbers = table_numbers(table);
     if number_at(s, at) < 3 {
         return call_row_at(table, s, at);
     }

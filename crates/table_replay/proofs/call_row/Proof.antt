@@ -16,7 +16,7 @@ number-of-requires : tie.Need-number-of-requires
 number-of-requires c κs = search needs
 
 returns : tie.Need-returns
-returns c = made-add _ _ _ _ (c .before .before .before .if1 .taken) (c .before .before .table-add .ensures .0) (c .number-of .ensures) (c .before .before .table-add .ensures .1 .1)
+returns c = made-add _ _ _ _ (c .before .before .before .if1 .taken) (c .before .table-add .ensures .0) (c .number-of .ensures) (c .before .table-add .ensures .1 .1)
 
 table-remove-requires : tie.Need-table-remove-requires
 table-remove-requires c κs = search needs
@@ -25,13 +25,13 @@ number-of-requires-2 : tie.Need-number-of-requires-2
 number-of-requires-2 c κs = search needs
 
 returns-2 : tie.Need-returns-2
-returns-2 c = made-remove _ _ _ _ (c .before .before .before .before .if1 .left) (c .before .before .before .if2 .taken) (c .before .before .table-remove .ensures .0) (c .number-of2 .ensures) (c .before .before .table-remove .ensures .1 .1)
+returns-2 c = made-remove _ _ _ _ (c .before .before .before .before .if1 .left) (c .before .before .before .if2 .taken) (c .before .table-remove .ensures .0) (c .number-of2 .ensures) (c .before .table-remove .ensures .1 .1)
 
 table-find-requires : tie.Need-table-find-requires
 table-find-requires c κs = search needs
 
 returns-3 : tie.Need-returns-3
-returns-3 c = made-look _ _ _ _ (c .before .before .if1 .left) (c .before .if2 .left) (c .table-find .ensures .0)
+returns-3 c = made-look _ _ _ _ (c .before .before .before .if1 .left) (c .before .before .if2 .left) (c .table-find .ensures .0)
 
 pub call-row-spec : {M : Type 1} → statement M
 call-row-spec =

@@ -18,8 +18,8 @@ number-at-requires-2 c κs = search needs
 
 returns : tie.Need-returns
 returns c =
-    let a = c .before .before .before .before .before .args in
-    c .number-at2 .ensures ∙ row-name (a .s .now) (a .at) (rw (c .before .before .before .number-at .ensures) at (c .before .before .if1 .taken))
+    let a = c .before .before .before .before .args in
+    c .number-at2 .ensures ∙ row-name (a .s .now) (a .at) (rw (c .before .before .number-at .ensures) at (c .before .if1 .taken))
 
 returns-2 : tie.Need-returns-2
 returns-2 c =
