@@ -8,3 +8,4 @@ pub mod Calls
 pub mod Answer
 pub mod Encode
 pub mod Claim
+pub mod Report
