@@ -16,7 +16,7 @@ use Rattle.address_table.proofs.Runs.{book-after}
 use Rattle.address_fill.specs.Fill.{placesAt}
 use Rattle.table_replay.specs.declared.TableReplayAnswer.{TableReplayAnswer}
 use Rattle.table_replay.specs.Script.{callEnd, callAt, callsFrom, callsOf, scriptCalls}
-use Rattle.table_replay.specs.Answer.{acceptedOne, acceptedAmong, lastTold, replayAnswer, listAfter, listRun, reportOfReplay}
+use Rattle.table_replay.specs.Answer.{acceptedOne, acceptedAmong, lastTold, tableReplayAnswer, listAfter, listRun, reportOfTableReplay}
 use Rattle.table_replay.proofs.Ends.{call-longer}
 use Rattle.table_replay.proofs.Made.{MadeAt, byte-call}
 use Rattle.table_replay.proofs.Calls.{calls-none, calls-on}
@@ -61,20 +61,20 @@ answers-length (c ∷ cs) b = ap suc (answers-length cs (after b c))
 module _ (p : Places) (given : ℕ) (s : List ℕ) where
   -- what the calls from a place on answer after t, and leave of table m and list l, is what the whole script answers and leaves of n and k
   pub record Left (at : ℕ) (t : TableReplayAnswer) (m l n k : List ℕ) : Type 0 where
-    pub answer : continued t (answers (callsFrom p given (length s) s at) (bookOf m)) ≡ replayAnswer (callsOf p given s) (bookOf n)
+    pub answer : continued t (answers (callsFrom p given (length s) s at) (bookOf m)) ≡ tableReplayAnswer (callsOf p given s) (bookOf n)
     pub rows : run (callsFrom p given (length s) s at) (bookOf m) ≡ run (callsOf p given s) (bookOf n)
     pub contents : contentsRun (callsFrom p given (length s) s at) m ≡ contentsRun (callsOf p given s) n
     pub list : listRun (callsFrom p given (length s) s at) (bookOf m) l ≡ listRun (callsOf p given s) (bookOf n) k
 
   -- from the first call on it is the whole script
   pub left-first : (n k : List ℕ) → Left 0 (answered 0 0 (Found 0)) n k n k
-  unfolding callsOf replayAnswer
+  unfolding callsOf tableReplayAnswer
   left-first n k =
       let bs : List Answer = answers (callsOf p given s) (bookOf n) in
       record { answer = rw (zero-add (length bs), zero-add (acceptedAmong bs), answers-length (callsOf p given s) (bookOf n)) refl; rows = refl; contents = refl; list = refl }
 
   -- where no call is, nothing is left
-  left-none : (at : ℕ) (t : TableReplayAnswer) (m l n k : List ℕ) → callEnd s at ≡ 0 → Left at t m l n k → (t ≡ replayAnswer (callsOf p given s) (bookOf n)) × ((bookOf m ≡ run (callsOf p given s) (bookOf n)) × ((m ≡ contentsRun (callsOf p given s) n) × (l ≡ listRun (callsOf p given s) (bookOf n) k)))
+  left-none : (at : ℕ) (t : TableReplayAnswer) (m l n k : List ℕ) → callEnd s at ≡ 0 → Left at t m l n k → (t ≡ tableReplayAnswer (callsOf p given s) (bookOf n)) × ((bookOf m ≡ run (callsOf p given s) (bookOf n)) × ((m ≡ contentsRun (callsOf p given s) n) × (l ≡ listRun (callsOf p given s) (bookOf n) k)))
   unfolding answers run contentsRun listRun
   left-none at t m l n k e h =
       let none = sym (calls-none p given s (length s) at e) in (
@@ -110,9 +110,9 @@ counted-bounds s at e calls accepted n a p nz c v =
 
 -- where no call is, the script is run: what it answers, and leaves, in the words of the contract
 pub replayed : (file s : List ℕ) (at : ℕ) (t : TableReplayAnswer) (m l n k : List ℕ) → callEnd s at ≡ 0 → Left (placesAt file) (length k) s at t m l n k
-    → (t ≡ replayAnswer (scriptCalls file k s) (bookOf n))
-    × ((reportOfReplay file t ≡ reportOfReplay file (replayAnswer (scriptCalls file k s) (bookOf n)))
+    → (t ≡ tableReplayAnswer (scriptCalls file k s) (bookOf n))
+    × ((reportOfTableReplay file t ≡ reportOfTableReplay file (tableReplayAnswer (scriptCalls file k s) (bookOf n)))
     × ((bookOf m ≡ run (scriptCalls file k s) (bookOf n)) × ((m ≡ contentsRun (scriptCalls file k s) n) × (l ≡ listRun (scriptCalls file k s) (bookOf n) k))))
 replayed file s at t m l n k e h =
     let x = left-none (placesAt file) (length k) s at t m l n k e h in
-    (x .0, (ap (reportOfReplay file) (x .0), x .1))
+    (x .0, (ap (reportOfTableReplay file) (x .0), x .1))

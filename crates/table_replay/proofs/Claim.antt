@@ -13,15 +13,15 @@ use Rattle.address_table.specs.Run.{contentsRun}
 use Rattle.address_table.proofs.Runs.{empty-book, table-rows}
 use Rattle.address_fill.specs.Fill.{placesAt}
 use Rattle.table_replay.specs.Script.{scriptCalls, encode, AllAsked}
-use Rattle.table_replay.specs.Answer.{lastTold, replayAnswer, listRun}
+use Rattle.table_replay.specs.Answer.{lastTold, tableReplayAnswer, listRun}
 use Rattle.table_replay.proofs.Calls.{byte-script}
 use Rattle.table_replay.proofs.Encode.{encode-decode}
 
 -- ---- any script
 
 -- a table of zeros is answered for as the plain book without rows
-pub empty-answer : (file lent s : List ℕ) → replayAnswer (scriptCalls file lent s) (bookOf emptyTable) ≡ replayAnswer (scriptCalls file lent s) []
-empty-answer file lent s = ap (replayAnswer (scriptCalls file lent s)) empty-book
+pub empty-answer : (file lent s : List ℕ) → tableReplayAnswer (scriptCalls file lent s) (bookOf emptyTable) ≡ tableReplayAnswer (scriptCalls file lent s) []
+empty-answer file lent s = ap (tableReplayAnswer (scriptCalls file lent s)) empty-book
 
 -- the rows that are left are the plain book's
 pub empty-rows : (file lent s : List ℕ) → bookOf (contentsRun (scriptCalls file lent s) emptyTable) ≡ run (scriptCalls file lent s) []
@@ -37,8 +37,8 @@ module _ (file lent : List ℕ) (cs : List Call) (b : AllAsked (placesAt file) (
   encoded : scriptCalls file lent (encode cs) ≡ cs
   encoded = encode-decode (placesAt file) (length lent) cs b
 
-  pub claim-answer : replayAnswer (scriptCalls file lent (encode cs)) (bookOf emptyTable) ≡ replayAnswer cs []
-  claim-answer = empty-answer file lent (encode cs) ∙ ap (λ (l : List Call). replayAnswer l []) encoded
+  pub claim-answer : tableReplayAnswer (scriptCalls file lent (encode cs)) (bookOf emptyTable) ≡ tableReplayAnswer cs []
+  claim-answer = empty-answer file lent (encode cs) ∙ ap (λ (l : List Call). tableReplayAnswer l []) encoded
 
   pub claim-rows : bookOf (contentsRun (scriptCalls file lent (encode cs)) emptyTable) ≡ run cs []
   claim-rows = empty-rows file lent (encode cs) ∙ ap (λ (l : List Call). run l []) encoded
@@ -54,6 +54,6 @@ last-told t [] c b = refl
 last-told t (d ∷ cs) c b = last-told (numberOf b d) cs c (after b d)
 
 -- a list that ends with a call tells that call's answer on the book that the calls before it left
-pub last-answer : (cs : List Call) (c : Call) (b : Book) → replayAnswer (cs ++ (c ∷ [])) b .last ≡ numberOf (run cs b) c
-unfolding replayAnswer
+pub last-answer : (cs : List Call) (c : Call) (b : Book) → tableReplayAnswer (cs ++ (c ∷ [])) b .last ≡ numberOf (run cs b) c
+unfolding tableReplayAnswer
 last-answer cs c b = last-told (Found 0) cs c b

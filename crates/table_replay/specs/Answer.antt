@@ -29,8 +29,8 @@ lastTold t [] = t
 lastTold t (a ∷ l) = lastTold (a .told) l
 
 -- how many calls were run on a book, how many of them were accepted, and the last one's own answer; 0 is found where none was run
-unfoldable pub replayAnswer : List Call → Book → TableReplayAnswer
-replayAnswer cs b = record { calls = length cs; accepted = acceptedAmong (answers cs b); last = lastTold (Found 0) (answers cs b) }
+unfoldable pub tableReplayAnswer : List Call → Book → TableReplayAnswer
+tableReplayAnswer cs b = record { calls = length cs; accepted = acceptedAmong (answers cs b); last = lastTold (Found 0) (answers cs b) }
 
 -- the list that a call leaves: a fill writes it, no other call does
 unfoldable pub listAfter : Book → Call → List ℕ → List ℕ
@@ -56,6 +56,6 @@ abbrev pub foundValue : NumberAnswer → ℕ
 foundValue (Found v) = v
 foundValue (Refused x) = 0
 
-abbrev pub reportOfReplay : List ℕ → TableReplayAnswer → TableReplayReport
-reportOfReplay file a =
+abbrev pub reportOfTableReplay : List ℕ → TableReplayAnswer → TableReplayReport
+reportOfTableReplay file a =
     record { head = answerHead file (a .last); value = foundValue (a .last); calls = a .calls; accepted = a .accepted }

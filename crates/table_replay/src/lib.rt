@@ -13,7 +13,7 @@ ghost use Rattle.address_table.specs.Table.{bookOf, contentsAfter};
 ghost use Rattle.address_table.specs.Run.{contentsRun};
 ghost use Rattle.address_fill.specs.Fill.{placesAt};
 ghost use Rattle.table_replay.specs.Script.{fixedOf, nameLength, callEnd, bytesAt, keyAt, rowCall, callAt, scriptCalls};
-ghost use Rattle.table_replay.specs.Answer.{acceptedOne, replayAnswer, listAfter, listRun, answerHead, foundValue, reportOfReplay};
+ghost use Rattle.table_replay.specs.Answer.{acceptedOne, tableReplayAnswer, listAfter, listRun, answerHead, foundValue, reportOfTableReplay};
 use address_book::NumberAnswer;
 use refusal::Head;
 use refusal::Verdict;
@@ -211,8 +211,8 @@ pub fn replay_table(
     table: &mut [u64; 4097],
     list: &mut [u64],
 ) -> TableReplayAnswer
-    ensures cause { λ r. ⌜ r ≡ replayAnswer (scriptCalls (now (file .entry)) (now (list .entry)) (now (script .entry))) (bookOf (now (table .entry))) ⌝ }
-    ensures report { λ r. ⌜ reportOfReplay (now (file .entry)) r ≡ reportOfReplay (now (file .entry)) (replayAnswer (scriptCalls (now (file .entry)) (now (list .entry)) (now (script .entry))) (bookOf (now (table .entry)))) ⌝ }
+    ensures cause { λ r. ⌜ r ≡ tableReplayAnswer (scriptCalls (now (file .entry)) (now (list .entry)) (now (script .entry))) (bookOf (now (table .entry))) ⌝ }
+    ensures report { λ r. ⌜ reportOfTableReplay (now (file .entry)) r ≡ reportOfTableReplay (now (file .entry)) (tableReplayAnswer (scriptCalls (now (file .entry)) (now (list .entry)) (now (script .entry))) (bookOf (now (table .entry)))) ⌝ }
     ensures rows { λ _. ⌜ bookOf (now (table .exit)) ≡ run (scriptCalls (now (file .entry)) (now (list .entry)) (now (script .entry))) (bookOf (now (table .entry))) ⌝ }
     ensures table { λ _. ⌜ now (table .exit) ≡ contentsRun (scriptCalls (now (file .entry)) (now (list .entry)) (now (script .entry))) (now (table .entry)) ⌝ }
     ensures list { λ _. ⌜ now (list .exit) ≡ listRun (scriptCalls (now (file .entry)) (now (list .entry)) (now (script .entry))) (bookOf (now (table .entry))) (now (list .entry)) ⌝ }
@@ -263,7 +263,7 @@ fn found_value(a: NumberAnswer) -> u64
 }
 
 pub fn report_replay(file: &[u8], a: TableReplayAnswer) -> TableReplayReport
-    ensures { λ r. ⌜ r ≡ reportOfReplay (now (file .entry)) a ⌝ }
+    ensures { λ r. ⌜ r ≡ reportOfTableReplay (now (file .entry)) a ⌝ }
 {
     let last = a.last;
     let head = answer_head(file, last);
