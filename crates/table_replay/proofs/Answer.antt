@@ -17,7 +17,7 @@ use Rattle.address_fill.specs.Fill.{placesAt}
 use Rattle.table_replay.specs.declared.TableReplayAnswer.{TableReplayAnswer}
 use Rattle.table_replay.specs.Script.{callEnd, callAt, callsFrom, callsOf, scriptCalls}
 use Rattle.table_replay.specs.Answer.{acceptedOne, acceptedAmong, lastTold, tableReplayAnswer, listAfter, listRun, reportOfTableReplay}
-use Rattle.table_replay.proofs.Ends.{call-longer}
+use Rattle.table_replay.proofs.Ends.{call-longer, call-ends}
 use Rattle.table_replay.proofs.Made.{MadeAt, byte-call}
 use Rattle.table_replay.proofs.Calls.{calls-none, calls-on}
 
@@ -100,13 +100,14 @@ module _ (p : Places) (given : ℕ) (s : List ℕ) where
         list = rw (x, book, made .1 .1) (ap (λ (cs : List Call). listRun cs (bookOf m) l) on ∙ h .list);
       }
 
--- the counts stay within the numbers of the script that were read
+-- the counts stay within the numbers of the script that were read, and these within the script
 pub counted-bounds : (s : List ℕ) (at e calls accepted n : ℕ) (a : NumberAnswer) → e ≡ callEnd s at → (e ≡ 0 → ⊥) → n ≡ acceptedOne a
-    → (accepted ≤ calls) × (calls ≤ at) → (accepted + n ≤ calls + 1) × (calls + 1 ≤ e)
+    → (accepted ≤ calls) × (calls ≤ at) → (accepted + n ≤ calls + 1) × (calls + 1 ≤ e) × (e ≤ length s)
 counted-bounds s at e calls accepted n a p nz c v =
     let o = accepted-one a in
     let l = call-longer s at (λ z. nz (p ∙ z)) in
-    (omega arith, omega arith)
+    let i = call-ends s at (λ z. nz (p ∙ z)) in
+    (omega arith, omega arith, omega arith)
 
 -- where no call is, the script is run: what it answers, and leaves, in the words of the contract
 pub replayed : (file s : List ℕ) (at : ℕ) (t : TableReplayAnswer) (m l n k : List ℕ) → callEnd s at ≡ 0 → Left (placesAt file) (length k) s at t m l n k

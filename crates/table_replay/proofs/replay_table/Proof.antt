@@ -19,13 +19,13 @@ abbrev Inv-loop : tie.InvT-loop
 Inv-loop file script table₀ list₀ last₀ calls₀ accepted₀ at₀ table list last calls accepted at =
     (length list ≡ length list₀)
     × Left (placesAt file) (length list₀) script at (answered calls accepted last) table list table₀ list₀
-    × ((accepted ≤ calls) × (calls ≤ at))
+    × ((accepted ≤ calls) × (calls ≤ at) × (at ≤ length script))
 
 abbrev μ-loop : tie.MeasureT-loop
 μ-loop file script table₀ list₀ last₀ calls₀ accepted₀ at₀ table list last calls accepted at = length script - at
 
 loop-holds : tie.Need-loop-holds Inv-loop μ-loop
-loop-holds c = (refl, left-first _ _ _ _ _, (omega arith, omega arith))
+loop-holds c = (refl, left-first _ _ _ _ _, (omega arith, omega arith, omega arith))
 
 call-end-requires : tie.Need-call-end-requires Inv-loop μ-loop
 call-end-requires c κs = search needs
@@ -72,7 +72,7 @@ loop-again c =
     let m = c .before .before .before .call-at in (
       m .kept .1 .1 .1 .1 .0 ∙ v .0,
       left-next _ _ _ _ _ _ _ _ _ _ _ _ _ _ _ _ _ (m .ensures .1 .1 .1) e nz (v .0) (m .ensures .0, (m .ensures .1 .0, m .ensures .1 .1 .0)) (c .accepted-one .ensures) (v .1),
-      counted-bounds _ _ _ _ _ _ _ e nz (c .accepted-one .ensures) (v .2),
+      counted-bounds _ _ _ _ _ _ _ e nz (c .accepted-one .ensures) (v .2 .0, v .2 .1),
     )
 
 same-length-2 : tie.Need-same-length-2 Inv-loop μ-loop

@@ -13,7 +13,9 @@ same-length : tie.Need-same-length
 same-length c = search needs
 
 returns : tie.Need-returns
-returns c = ?
+returns c =
+    let run = c .before .before .before .replay-table .ensures in
+    (c .report-replay .ensures ∙ run .1 .0, run .1 .1)
 
 pub xcoff-table-replay-spec : {M : Type 1} → statement M
 xcoff-table-replay-spec =
