@@ -283,7 +283,11 @@ fn a_list_by_one_call_is_its_calls_one_by_one() {
                 accepted,
                 last,
             };
-            assert_eq!(whole.replay(&calls, &file, &mut filled), told, "seed {seed}");
+            assert_eq!(
+                whole.replay(&calls, &file, &mut filled),
+                told,
+                "seed {seed}"
+            );
             assert_eq!((&whole, &filled), (&table, &list), "seed {seed} call {n}");
         }
     }
@@ -343,7 +347,13 @@ fn any_numbers_are_calls() {
     for _ in 0..2_000 {
         let length = rng.below(60);
         let script: Vec<u64> = (0..length)
-            .map(|_| if rng.below(9) == 0 { rng.next() } else { rng.below(5) })
+            .map(|_| {
+                if rng.below(9) == 0 {
+                    rng.next()
+                } else {
+                    rng.below(5)
+                }
+            })
             .collect();
         let run = table.replay_script(&script, &[], &mut []);
         assert!(run.accepted <= run.calls && 2 * run.calls <= length);

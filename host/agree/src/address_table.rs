@@ -64,12 +64,20 @@ fn replayed(
         let all = ours.replay(&own, file, lent.slice());
         let part = format!("replay of {} table calls", n + 1);
         let counts = (all.calls, all.accepted);
-        same(&format!("counts of a {part}"), &counts, &(n as u64 + 1, accepted))?;
+        same(
+            &format!("counts of a {part}"),
+            &counts,
+            &(n as u64 + 1, accepted),
+        )?;
         answers(&format!("last answer of a {part}"), all.last, last)?;
         lent.holds(&format!("list after a {part}"), &list)?;
         rows(&ours, &theirs, &format!("after a {part}"))?;
         if n + 1 == calls.len() {
-            same(&format!("memory after a {part}"), &(ours == *one_by_one), &true)?;
+            same(
+                &format!("memory after a {part}"),
+                &(ours == *one_by_one),
+                &true,
+            )?;
         }
     }
     Ok(())
