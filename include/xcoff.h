@@ -4,7 +4,7 @@
  *
  *     cc -Iinclude PROGRAM.c target/staticlib/libxcoff_c.a -o PROGRAM
  *
- * examples/build_images.c and examples/move_images.c are two. xcoff_inline.h has names for the numbers below, plans as
+ * examples/build_images.c, examples/move_images.c and examples/place_object.c are three. xcoff_inline.h has names for the numbers below, plans as
  * structs and tables by rows; xcoff_words.h the words of a refusal. Where all is installed, `pkg-config --cflags --libs
  * xcoff` says how to compile.
  *
@@ -21,7 +21,7 @@
  *
  * Every answer starts with `number`, `item` and `offset`. Number 0: accepted, with item 0 and offset 0. Otherwise the
  * call is refused, the number says why, the item what it is about, the offset where that is in the file (see below), and
- * every other field is 0, but for the counts of xcoff_replay and xcoff_table_replay.
+ * every other field is 0, but for the counts of xcoff_replay, xcoff_table_replay and xcoff_replay_object.
  *
  *   number       why                                                       item
  *    1 SHORT     file or header area ends early                            0
@@ -33,13 +33,14 @@
  *                longer than the memory lent for it
  *    4 KIND      section flags not allowed                                 section
  *    5 BOUNDS    raw data, symbol or string table past the file's end;     section, or 0
- *                a section's line table past it, or its overflow header
- *                not there exactly once
+ *                a section's relocation or line table past it, or its
+ *                overflow header not there exactly once
  *    6 ADDRESS   a section's addresses differ or pass the address space;   section
  *                a module's bss below the end of its data
  *    7 STRINGS   string table length 1 to 3                                0
  *    8 INDEX     no such section, symbol, loader symbol or import id; no   the number asked for
- *                such text section; a bench that is not 1 or 2
+ *                such text section, of an object file text or data
+ *                section; a bench that is not 1 or 2
  *    9 AUX       a symbol's auxiliary entries pass the table's end         index
  *   10 NAME      bad name offset, into the string table or, for a class    index
  *                with bit 80 hex, into the one debug section
@@ -54,19 +55,21 @@
  *                                                                          2 symbols, 3 relocations, 4 import ids,
  *                                                                          5 strings
  *   16 LSYM      type, section, import id or name of a loader symbol bad   its index, from 3
- *   17 LREL      type, section, address or symbol of a relocation entry    entry, from 0
- *                bad
+ *   17 LREL      type, section, address or symbol of a relocation entry    entry, from 0; of an object file numbered on
+ *                bad                                                       from table to table
  *   18 OVERLAP   field shares bytes with an earlier one that is not the    the later entry
  *                same
- *   19 PLAN      an image passes the end of the address space, or an       0 text, 1 data, or the import's index
- *                address of XCOFF32 has more than 32 bits
- *   20 ROOM      lent memory not exactly as long as needed                 0 text, sheet, rows, records or a file's
- *                                                                          copy; 1 data; 2 list
+ *   19 PLAN      an image passes the end of the address space, or an       0 text, 1 data, or the import's index; of an
+ *                address of XCOFF32 has more than 32 bits                  object file the section
+ *   20 ROOM      lent memory not exactly as long as needed                 0 text, an object file's buffer, sheet, rows,
+ *                                                                          records or a file's copy; 1 data; 2 list
  *   21 SHEET     not a plan sheet, or one of the wrong length              0
  *   22 RECORD    a line of the record text is not as it must be, is        the line, from 1
  *                missing, or is one too many
  *   23 FORM      S-records of an XCOFF64 module                            0
  *   24 CLASH     the text and data images share an address                 0
+ *   25 RANGE     an object file's branch would leave -33,554,432 to        the lowest entry of such a branch
+ *                33,554,428, or be off a step of 4
  *   26 FULL      all 512 rows of an address table are taken, and the row   0
  *                is new
  *   27 ABSENT    the bench has no such row                                 0
@@ -83,7 +86,7 @@
  *   the string table         7 STRINGS
  *   the loader section       15 LOADER; 3 LIMIT with item 2 or 3 of a module
  *   the loader symbol        16 LSYM
- *   the relocation entry     17 LREL, 18 OVERLAP; 14 THREAD with an entry
+ *   the relocation entry     17 LREL, 18 OVERLAP, 25 RANGE; 14 THREAD with an entry
  *
  * and 0 for every other: BOUNDS with item 0, the other limits, what is about the module as a whole, a plan, a sheet, lent
  * memory, records, or a number asked for. A header or entry lies whole in the file. A loader section may be empty: its
@@ -601,6 +604,81 @@ typedef struct xcoff_table_replay_answer {
 
 xcoff_table_replay_answer xcoff_table_replay(const uint8_t *file, size_t length, const uint64_t *script, size_t numbers,
                                              uint64_t *table, uint64_t *list, size_t places);
+
+/*
+ * Object files before linking: any file that opens. Its image is one buffer that takes the text and data sections end to end,
+ * in their order; bss adds none. The relocation entries are those of these sections' own tables, in XCOFF32 by the count in the
+ * overflow header where 65,535 stands in the section's; they are numbered on from table to table. Types 00, 0C and 0D add the
+ * symbol's move to a field of 32 or, in XCOFF64, 64 bits, 01 subtracts it; 08 and 18 add it to a branch, 0A and 1A the symbol's
+ * move less the entry's own section's; 0F changes nothing. A branch is the word's 26 low bits, of which the bottom two stay.
+ *
+ * The refusals, after those of opening: for each text or data section MODULE 3, BOUNDS; then by entry LREL, also for a symbol
+ * that cannot be read, and OVERLAP, also for a branch and another entry on one field. Sections may share bytes and tables: the
+ * longest file has an image of 512 MiB and 38 million entries.
+ */
+
+/* What a host needs of an object file: how many addresses a plan has (one per section), how many entries there are, how long
+   the buffer is. */
+typedef struct xcoff_object_answer {
+    uint64_t number;
+    uint64_t item;
+    uint64_t offset;
+    uint64_t sections;
+    uint64_t entries;
+    uint64_t length;
+} xcoff_object_answer;
+
+xcoff_object_answer xcoff_object(const uint8_t *file, size_t length);
+
+/* A section as it is placed. Of one that is neither text nor data size, table and entries are 0. */
+typedef struct xcoff_object_section_row {
+    uint64_t place;     /* in the buffer */
+    uint64_t size;      /* in the buffer */
+    uint64_t table;     /* file offset of its relocation table */
+    uint64_t entries;
+    uint64_t first;     /* the number of its first entry */
+} xcoff_object_section_row;
+
+/* 5 numbers for each section of the file, as the tables above are listed; ROOM 0 last. */
+xcoff_verdict xcoff_object_sections(const uint8_t *file, size_t length, uint64_t *rows, size_t numbers);
+
+/* A relocation entry as the file has it, and its field. */
+typedef struct xcoff_object_entry_row {
+    uint64_t address;
+    uint64_t symbol;    /* index in the symbol table */
+    uint64_t rsize;
+    uint64_t rtype;
+    uint64_t width;     /* in bits: 26, 32 or 64; 0 of type 0F */
+    uint64_t place;     /* of the field in the buffer; 0 of type 0F */
+} xcoff_object_entry_row;
+
+/* 6 numbers for each entry of one section's table. INDEX where section is no text or data section's number, then ROOM 0. */
+xcoff_verdict xcoff_object_entries(const uint8_t *file, size_t length, uint64_t section, uint64_t *rows, size_t numbers);
+
+/*
+ * Builds the buffer for a plan, or moves it from one plan to another, taking it as it is. A plan is a list of one address per
+ * section, of which those of text, data and bss are used. A refusal leaves the buffer as it was. The order of refusals: the
+ * object file's; ROOM 2 for each list; PLAN for each, with the first section that does not fit; ROOM 0; RANGE, judged of each
+ * branch once, after the exact sum of all entries on its word.
+ */
+xcoff_verdict xcoff_build_object(const uint8_t *file, size_t length, const uint64_t *plan, size_t places, uint8_t *buffer,
+                                 size_t size);
+xcoff_verdict xcoff_move_object(const uint8_t *file, size_t length, const uint64_t *from, size_t from_places,
+                                const uint64_t *to, size_t to_places, uint8_t *buffer, size_t size);
+
+/* The last call's verdict, or 0, 0, 0 where no call was run. */
+typedef struct xcoff_object_replay_answer {
+    uint64_t number;
+    uint64_t item;
+    uint64_t offset;
+    uint64_t calls;     /* calls run */
+    uint64_t accepted;  /* those of them that were accepted */
+} xcoff_object_replay_answer;
+
+/* Runs a list of calls on the buffer, as numbers: 0 and a plan is a build, any other number and two plans a move; a plan is how
+   many addresses it has, and those. What is cut short ends the list. A refused call changes nothing and does not end it. */
+xcoff_object_replay_answer xcoff_replay_object(const uint8_t *file, size_t length, const uint64_t *script, size_t numbers,
+                                               uint8_t *buffer, size_t size);
 
 #ifdef __cplusplus
 }

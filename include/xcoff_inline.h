@@ -4,7 +4,7 @@
  *
  * Calls that judge the whole module: xcoff_module, xcoff_loader_symbol and its name, xcoff_import_*, xcoff_build,
  * xcoff_move, the records, and the tables of loader symbols, relocations and imports. Each does so every time: to look at
- * all loader symbols, take the table. xcoff_open, xcoff_section, xcoff_symbol, xcoff_csect and their names judge the headers
+ * all loader symbols, take the table. Every function on an object file judges all of its entries. xcoff_open, xcoff_section, xcoff_symbol, xcoff_csect and their names judge the headers
  * and the tables' places; xcoff_walk and xcoff_symbol_table every symbol. Sheets are judged by themselves.
  */
 #ifndef XCOFF_INLINE_H
@@ -45,6 +45,7 @@ enum xcoff_refused {
     XCOFF_REFUSED_RECORD = 22,
     XCOFF_REFUSED_FORM = 23,
     XCOFF_REFUSED_CLASH = 24,
+    XCOFF_REFUSED_RANGE = 25,
     XCOFF_REFUSED_FULL = 26,
     XCOFF_REFUSED_ABSENT = 27,
     XCOFF_REFUSED_LONG = 28,
@@ -95,6 +96,8 @@ enum xcoff_visibility {
 #define XCOFF_LOADER_SYMBOL_ROW_NUMBERS (sizeof(xcoff_loader_symbol_row) / sizeof(uint64_t))
 #define XCOFF_RELOCATION_ROW_NUMBERS (sizeof(xcoff_relocation_row) / sizeof(uint64_t))
 #define XCOFF_IMPORT_ROW_NUMBERS (sizeof(xcoff_import_row) / sizeof(uint64_t))
+#define XCOFF_OBJECT_SECTION_ROW_NUMBERS (sizeof(xcoff_object_section_row) / sizeof(uint64_t))
+#define XCOFF_OBJECT_ENTRY_ROW_NUMBERS (sizeof(xcoff_object_entry_row) / sizeof(uint64_t))
 
 /* The bit of a loader symbol's smtype that says: imported. */
 #define XCOFF_IMPORTED 0x40
@@ -243,6 +246,19 @@ static inline xcoff_verdict xcoff_relocation_rows(const uint8_t *file, size_t le
 static inline xcoff_verdict xcoff_import_rows(const uint8_t *file, size_t length, xcoff_import_row *rows, size_t count)
 {
     return xcoff_import_table(file, length, (uint64_t *)rows, count * XCOFF_IMPORT_ROW_NUMBERS);
+}
+
+/* The same of an object file: `count` is sections of xcoff_object, or entries of the section's row. */
+static inline xcoff_verdict xcoff_object_section_rows(const uint8_t *file, size_t length, xcoff_object_section_row *rows,
+                                                      size_t count)
+{
+    return xcoff_object_sections(file, length, (uint64_t *)rows, count * XCOFF_OBJECT_SECTION_ROW_NUMBERS);
+}
+
+static inline xcoff_verdict xcoff_object_entry_rows(const uint8_t *file, size_t length, uint64_t section,
+                                                    xcoff_object_entry_row *rows, size_t count)
+{
+    return xcoff_object_entries(file, length, section, (uint64_t *)rows, count * XCOFF_OBJECT_ENTRY_ROW_NUMBERS);
 }
 
 /* ---- the flags of a section, whole */

@@ -22,6 +22,17 @@ typedef struct xcoff_words {
     const char *meaning;
 } xcoff_words;
 
+/* The first row of a number, or the last row; then the item's own, or that of all others. */
+static inline const xcoff_words *xcoff_words_in(const xcoff_words *all, uint64_t number, uint64_t item)
+{
+    size_t n = 0;
+    while (all[n].number != number && all[n].number != 0)
+        n++;
+    while (all[n].one && all[n].item != item)
+        n++;
+    return &all[n];
+}
+
 static inline const xcoff_words *xcoff_words_of(uint64_t number, uint64_t item)
 {
     static const xcoff_words all[] = {
@@ -68,6 +79,7 @@ static inline const xcoff_words *xcoff_words_of(uint64_t number, uint64_t item)
         {22, 0, 0, "RECORD", "line % of the record text is not the line that is written there, or is missing or one too many"},
         {23, 0, 0, "FORM", "S-records are for XCOFF32 modules only"},
         {24, 0, 0, "CLASH", "the text and data images share an address"},
+        {25, 0, 0, "RANGE", "the branch of relocation entry % would leave -33,554,432 to 33,554,428, or be off a step of 4"},
         {26, 0, 0, "FULL", "all 512 rows of the address table are taken, and this one is new"},
         {27, 0, 0, "ABSENT", "the bench has no such row in the address table"},
         {28, 0, 0, "LONG", "a name in the address table has 1 to 32 bytes"},
@@ -77,12 +89,26 @@ static inline const xcoff_words *xcoff_words_of(uint64_t number, uint64_t item)
         {32, 0, 0, "GROUP", "the line table has a line before any function"},
         {0, 0, 0, "UNKNOWN", "no such number"},
     };
-    size_t n = 0;
-    while (all[n].number != number && all[n].number != 0)
-        n++;
-    while (all[n].one && all[n].item != item)
-        n++;
-    return &all[n];
+    return xcoff_words_in(all, number, item);
+}
+
+/* The same where a function on an object file refuses: of some numbers it has other items. */
+static inline const xcoff_words *xcoff_object_words_of(uint64_t number, uint64_t item)
+{
+    static const xcoff_words all[] = {
+        {5, 1, 0, "BOUNDS", "the symbol table or string table passes the file's end"},
+        {5, 0, 0, "BOUNDS", "the raw data or relocation table of section % passes the file's end, or the table's overflow header is not there exactly once"},
+        {8, 0, 0, "INDEX", "there is no text or data section %"},
+        {13, 0, 0, "MODULE", "a text or data section of the object file has no raw data"},
+        {17, 0, 0, "LREL", "the type, width, address or symbol of relocation entry % is bad"},
+        {19, 0, 0, "PLAN", "section % at the plan's address passes the end of the address space"},
+        {20, 1, 0, "ROOM", "the image of the object file is not exactly as long as needed"},
+        {20, 1, 1, "ROOM", "the data image is not exactly as long as needed"},
+        {20, 0, 0, "ROOM", "the list of addresses is not exactly as long as needed"},
+        {0, 0, 0, "UNKNOWN", "no such number"},
+    };
+    const xcoff_words *own = xcoff_words_in(all, number, item);
+    return own->number ? own : xcoff_words_of(number, item);
 }
 
 /* A number's name, such as "LIMIT". */
@@ -91,10 +117,9 @@ static inline const char *xcoff_refusal_name(uint64_t number)
     return xcoff_words_of(number, 0)->name;
 }
 
-/* "refused N I O: NAME, what it means", cut where `room` bytes are too few, as snprintf does; its answer is snprintf's. */
-static inline int xcoff_refusal_words(uint64_t number, uint64_t item, uint64_t offset, char *text, size_t room)
+static inline int xcoff_words_put(const xcoff_words *words, uint64_t number, uint64_t item, uint64_t offset, char *text,
+                                  size_t room)
 {
-    const xcoff_words *words = xcoff_words_of(number, item);
     const char *rest = words->meaning;
     char meaning[400];
     size_t used = 0;
@@ -108,6 +133,18 @@ static inline int xcoff_refusal_words(uint64_t number, uint64_t item, uint64_t o
     meaning[used] = 0;
     return snprintf(text, room, "refused %" PRIu64 " %" PRIu64 " %" PRIu64 ": %s, %s", number, item, offset, words->name,
                     meaning);
+}
+
+/* "refused N I O: NAME, what it means", cut where `room` bytes are too few, as snprintf does; its answer is snprintf's. */
+static inline int xcoff_refusal_words(uint64_t number, uint64_t item, uint64_t offset, char *text, size_t room)
+{
+    return xcoff_words_put(xcoff_words_of(number, item), number, item, offset, text, room);
+}
+
+/* The same of a refusal by a function on an object file. */
+static inline int xcoff_object_refusal_words(uint64_t number, uint64_t item, uint64_t offset, char *text, size_t room)
+{
+    return xcoff_words_put(xcoff_object_words_of(number, item), number, item, offset, text, room);
 }
 
 #ifdef __cplusplus

@@ -90,6 +90,7 @@ impl Commands {
             assert!(status == module || module == 0 && status == 2, "{address}: status {status}");
         }
         self.salvage(input);
+        self.objects(input);
         self.as_sheet();
         self.as_imports();
         self.as_image(input);
@@ -149,6 +150,39 @@ impl Commands {
         assert_eq!(self.run("salvage copy -o again --report report --force"), 0);
         assert_eq!(fs::read("copy").unwrap(), fs::read("again").unwrap());
         assert!(fs::read("report").unwrap().is_empty());
+    }
+
+    /// An object file: as recorded it is placed as the file has it; placed elsewhere and moved back it is that again.
+    fn objects(&self, input: &[u8]) {
+        let listed = self.run("object m");
+        assert!(listed <= 1);
+        assert_eq!(self.run("object m --json"), listed);
+        assert!(self.run("object m --section 1") <= 1);
+        assert_eq!(listed == 0, xcoff::object(input).is_ok());
+        let Ok(object) = xcoff::object(input) else {
+            assert_eq!(self.run("place m --recorded -o placed --force"), 1);
+            return;
+        };
+        if object.length > LARGE {
+            return;
+        }
+        assert_eq!(self.run("place m --recorded -o placed --force"), 0);
+        let raw = fs::read("placed").unwrap();
+        assert_eq!(self.run("place-move m --recorded placed --force"), 0);
+        assert_eq!(fs::read("placed").unwrap(), raw);
+        let kind = xcoff::section(input, 1).map(|section| section.kind);
+        if !matches!(kind, Ok(xcoff::Kind::Text | xcoff::Kind::Data | xcoff::Kind::Bss)) {
+            assert_eq!(self.run("place m --recorded --at 1=40 -o other --force"), 2);
+            return;
+        }
+        let placed = self.run("place m --recorded --at 1=40 -o other --force");
+        assert!(placed <= 1);
+        if placed == 0 {
+            assert!(self.run("place-move m --recorded --from 1=80 --to 1=40 other --force") <= 1);
+            assert_eq!(self.run("place m --recorded --at 1=40 -o other --force"), 0);
+            assert_eq!(self.run("place-move m --recorded --from 1=40 other --force"), 0);
+            assert_eq!(fs::read("other").unwrap(), raw);
+        }
     }
 
     /// The input as a file of addresses, which is taken apart before anything is judged.

@@ -56,7 +56,7 @@ static void refusal(const void *answer, size_t size)
     uint64_t head[3];
     size_t i;
     memcpy(head, answer, sizeof head);
-    PROMISE(head[0] <= 24 || (head[0] >= 26 && head[0] <= 32));
+    PROMISE(head[0] <= 32);
     PROMISE(head[0] == 0 ? head[1] == 0 && head[2] == 0 : head[2] <= length);
     for (i = sizeof head; head[0] != 0 && i < size; i++)
         PROMISE(((const uint8_t *)answer)[i] == 0);
@@ -1379,6 +1379,197 @@ static void salvage(xcoff_open_answer o)
         copied(o, t, n.count);
 }
 
+/* ---- object files */
+
+static int is_held(xcoff_section_answer s)
+{
+    return s.flag == 0x20 || s.flag == 0x40;
+}
+
+/* The entries of one section into exactly as many places: each field lies in its own section, at its own place. */
+static void object_entries(xcoff_object_answer a, uint64_t n, xcoff_object_section_row own)
+{
+    xcoff_section_answer s = xcoff_section(file, length, n);
+    size_t room = 6 * own.entries, i;
+    uint64_t *numbers = lend(rows_area, 8 * (room + 1));
+    const xcoff_object_entry_row *rows = (const void *)numbers;
+    xcoff_verdict v;
+    fill(numbers, 8 * (room + 1));
+    v = xcoff_object_entries(file, length, n, numbers, room + 1);
+    ANSWER(v);
+    if (a.number != 0)
+        PROMISE(REFUSED_AS(v, a));
+    else if (s.number != 0 || !is_held(s))
+        PROMISE(REFUSED(v, 8, n, 0));
+    else
+        PROMISE(REFUSED(v, 20, 0, 0));
+    untouched(numbers, 8 * (room + 1));
+    if (a.number != 0 || s.number != 0 || !is_held(s))
+        return;
+    numbers = lend(rows_area, 8 * room);
+    rows = (const void *)numbers;
+    PROMISE(xcoff_object_entries(file, length, n, numbers, room).number == 0);
+    note(numbers, 8 * room);
+    for (i = 0; i < own.entries; i++) {
+        size_t at = own.table + i * (is_64() ? 14 : 10);
+        PROMISE(rows[i].address == number_at(at, is_64() ? 8 : 4) && rows[i].symbol == number_at(at + (is_64() ? 8 : 4), 4));
+        PROMISE(rows[i].rsize == file[at + (is_64() ? 12 : 8)] && rows[i].rtype == file[at + (is_64() ? 13 : 9)]);
+        PROMISE(xcoff_symbol(file, length, rows[i].symbol).number == 0);
+        if (rows[i].rtype == 0x0F) {
+            PROMISE(rows[i].width == 0 && rows[i].place == 0);
+            continue;
+        }
+        PROMISE(rows[i].width == (rows[i].rsize & 0x3F) + 1);
+        PROMISE(rows[i].place == own.place + (rows[i].address - s.paddr));
+        PROMISE(rows[i].place >= own.place && rows[i].place - own.place + (rows[i].width == 64 ? 8 : 4) <= own.size);
+    }
+}
+
+/* The tables: places and entries go on from section to section. */
+static const xcoff_object_section_row *object_tables(xcoff_object_answer a)
+{
+    size_t room = 5 * a.sections;
+    uint64_t *numbers = lend(records_area, 8 * (room + 1));
+    const xcoff_object_section_row *rows;
+    uint64_t n, place = 0, entries = 0;
+    xcoff_verdict v;
+    fill(numbers, 8 * (room + 1));
+    v = xcoff_object_sections(file, length, numbers, room + 1);
+    ANSWER(v);
+    PROMISE(a.number != 0 ? REFUSED_AS(v, a) : REFUSED(v, 20, 0, 0));
+    untouched(numbers, 8 * (room + 1));
+    numbers = lend(records_area, 8 * room);
+    rows = (const void *)numbers;
+    if (a.number == 0)
+        PROMISE(xcoff_object_sections(file, length, numbers, room).number == 0);
+    note(numbers, 8 * room);
+    for (n = 1; n <= a.sections; n++) {
+        xcoff_section_answer s = xcoff_section(file, length, n);
+        const xcoff_object_section_row *row = rows + (n - 1);
+        if (is_held(s)) {
+            PROMISE(row->place == place && row->first == entries && row->size == s.size && row->table == s.relptr);
+            PROMISE(row->table <= length && row->entries <= (length - row->table) / (is_64() ? 14 : 10));
+        } else {
+            PROMISE(row->size == 0 && row->table == 0 && row->entries == 0);
+        }
+        place += row->size;
+        entries += row->entries;
+        object_entries(a, n, *row);
+    }
+    PROMISE(place == a.length && entries == a.entries);
+    return rows;
+}
+
+/* The buffer as the file has it: every branch stays in range there. */
+static uint8_t *object_raw(xcoff_object_answer a, const uint64_t *recorded)
+{
+    uint8_t *buffer = lend(text_area, a.length);
+    uint64_t n;
+    size_t at = 0;
+    PROMISE(xcoff_build_object(file, length, recorded, a.sections, buffer, a.length).number == 0);
+    for (n = 1; n <= a.sections; n++) {
+        xcoff_section_answer s = xcoff_section(file, length, n);
+        if (!is_held(s))
+            continue;
+        PROMISE(s.size == 0 || memcmp(buffer + at, file + s.scnptr, s.size) == 0);
+        at += s.size;
+    }
+    return buffer;
+}
+
+/* Built for a plan, moved back, and both in one list; what is refused changes nothing. */
+static void object_placed(xcoff_object_answer a, const uint64_t *recorded, const uint64_t *plan)
+{
+    uint8_t *raw = object_raw(a, recorded), *built = lend(data_area, a.length), *other = lend(data2_area, a.length);
+    size_t k = a.sections, n = 3 * (k + 1) + 2, i = 0;
+    uint64_t *script = lend(script_area, 8 * n);
+    xcoff_object_replay_answer r;
+    xcoff_verdict v, w;
+    fill(built, a.length);
+    v = xcoff_build_object(file, length, plan, k, built, a.length);
+    ANSWER(v);
+    PROMISE(v.number == 0 || (v.number == 19 && v.item >= 1 && v.item <= k && v.offset == 0) || (v.number == 25 && v.item < a.entries && v.offset != 0));
+    if (v.number != 0)
+        untouched(built, a.length);
+    note(built, a.length);
+    memcpy(other, raw, a.length);
+    w = xcoff_move_object(file, length, recorded, k, plan, k, other, a.length);
+    ANSWER(w);
+    PROMISE(REFUSED_AS(w, v));
+    PROMISE(memcmp(other, v.number == 0 ? built : raw, a.length) == 0);
+    script[i++] = 0;
+    script[i++] = k;
+    memcpy(script + i, recorded, 8 * k);
+    i += k;
+    script[i++] = 1 + random_number() % 9;
+    script[i++] = k;
+    memcpy(script + i, recorded, 8 * k);
+    i += k;
+    script[i++] = k;
+    memcpy(script + i, plan, 8 * k);
+    fill(other, a.length);
+    r = xcoff_replay_object(file, length, script, n, other, a.length);
+    PROMISE(r.calls == 2 && r.accepted == 1 + (v.number == 0) && REFUSED_AS(r, v));
+    PROMISE(memcmp(other, v.number == 0 ? built : raw, a.length) == 0);
+    if (n > 3 && k > 0) {
+        r = xcoff_replay_object(file, length, script, n - 1, other, a.length);
+        PROMISE(r.calls == 1 && r.accepted == 1 && r.number == 0 && memcmp(other, raw, a.length) == 0);
+    }
+    if (v.number == 0) {
+        PROMISE(xcoff_move_object(file, length, plan, k, recorded, k, built, a.length).number == 0);
+        PROMISE(memcmp(built, raw, a.length) == 0);
+    }
+}
+
+/* Room and lists that do not fit. */
+static void object_refused(xcoff_object_answer a, const uint64_t *recorded)
+{
+    size_t k = a.sections, size = a.length + 1;
+    uint8_t *buffer = lend(text2_area, size);
+    uint64_t *list = lend(list2_area, 8 * (k + 1));
+    xcoff_verdict v;
+    memset(list, 0, 8 * (k + 1));
+    fill(buffer, size);
+    v = xcoff_build_object(file, length, list, k + 1, buffer, size);
+    PROMISE(a.number != 0 ? REFUSED_AS(v, a) : REFUSED(v, 20, 2, 0));
+    v = xcoff_move_object(file, length, recorded, k, list, k + 1, buffer, size);
+    PROMISE(a.number != 0 ? REFUSED_AS(v, a) : REFUSED(v, 20, 2, 0));
+    v = xcoff_build_object(file, length, recorded, k, buffer, size);
+    PROMISE(a.number != 0 ? REFUSED_AS(v, a) : REFUSED(v, 20, 0, 0));
+    untouched(buffer, size);
+}
+
+static void objects(xcoff_open_answer o)
+{
+    xcoff_object_answer a = xcoff_object(file, length);
+    uint64_t *recorded = lend(list_area, 8 * a.sections), *plan = lend(table_area, 8 * a.sections);
+    uint64_t n, round;
+    xcoff_object_section_row none = {0, 0, 0, 0, 0};
+    step = "objects";
+    ANSWER(a);
+    if (o.number != 0)
+        PROMISE(REFUSED_AS(a, o));
+    else if (a.number == 5)
+        PROMISE(a.item != 0 && a.offset == header_at(a.item));
+    else
+        PROMISE(a.number == 0 || REFUSED(a, 13, 3, 0) || ((a.number == 17 || a.number == 18) && a.offset != 0));
+    PROMISE(a.number != 0 || a.sections == o.sections);
+    if (a.entries > 200000 || a.length > HEAVY)
+        return;
+    object_tables(a);
+    object_entries(a, 0, none);
+    object_entries(a, a.sections + 1, none);
+    object_entries(a, a.number != 0 ? any_number() : UINT64_MAX, none);
+    for (n = 1; n <= a.sections; n++)
+        recorded[n - 1] = xcoff_section(file, length, n).paddr;
+    object_refused(a, recorded);
+    for (round = 0; a.number == 0 && round < 3; round++) {
+        for (n = 0; n < a.sections; n++)
+            plan[n] = round == 0 ? recorded[n] + 4 * (random_number() % 64) : round == 1 ? random_number() % 0x2000000 : any_number();
+        object_placed(a, recorded, plan);
+    }
+}
+
 static void nothing(void)
 {
     xcoff_open_answer o = xcoff_open(NULL, 0);
@@ -1395,6 +1586,8 @@ static void nothing(void)
     PROMISE(REFUSED(f, 1, 0, 0) && REFUSED(b, 1, 0, 0));
     PROMISE(xcoff_write_module(NULL, 0, 0, 0, NULL, 0, NULL, 0).number == 1);
     PROMISE(xcoff_salvage(NULL, 0, NULL, 0, NULL, 0).number == 1);
+    PROMISE(xcoff_object(NULL, 0).number == 1 && xcoff_object_sections(NULL, 0, NULL, 0).number == 1);
+    PROMISE(xcoff_build_object(NULL, 0, NULL, 0, NULL, 0).number == 1 && xcoff_replay_object(NULL, 0, NULL, 0, NULL, 0).calls == 0);
 }
 
 static uint64_t run(const uint8_t *input, size_t n)
@@ -1422,6 +1615,7 @@ static uint64_t run(const uint8_t *input, size_t n)
         records(m);
         written(m);
         salvage(o);
+        objects(o);
         sheets();
         if (m.image < HEAVY)
             input_as_calls(m);

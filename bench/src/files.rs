@@ -1,4 +1,4 @@
-//! Files with symbols, made for the benchmarks; `made` in host/tests makes modules.
+//! Files with symbols, lines or relocation tables, made for the benchmarks; `made` in host/tests makes modules.
 
 use xcoff::Format;
 
@@ -152,5 +152,68 @@ impl Lines {
         }
         out.extend(flag.to_be_bytes());
         out.extend(vec![0; if wide { 4 } else { 0 }]);
+    }
+}
+
+/// An object file: a text section of zeros with a relocation table, a data section of 8 bytes, and one symbol in data, which all
+/// entries name.
+pub struct Placed {
+    pub format: Format,
+    /// Of the text section.
+    pub size: u64,
+    /// Size and type of each entry.
+    pub kind: [u8; 2],
+    pub addresses: Vec<u64>,
+}
+
+impl Placed {
+    pub fn bytes(&self) -> Vec<u8> {
+        let wide = self.format == Format::Xcoff64;
+        let count = self.addresses.len() as u64;
+        let overflows = !wide && count >= 65_535;
+        let sections = if overflows { 3 } else { 2 };
+        let raw = if wide { 24 + 72 * sections } else { 20 + 40 * sections };
+        let (data, table) = (raw + self.size, raw + self.size + 8);
+        let symbols = table + count * if wide { 14 } else { 10 };
+        let mut out = vec![0x01, if wide { 0xF7 } else { 0xDF }, 0, sections as u8, 0, 0, 0, 0];
+        self.word(&mut out, symbols);
+        out.extend(if wide { vec![0; 4] } else { Vec::new() });
+        out.extend(1u32.to_be_bytes());
+        out.extend(if wide { Vec::new() } else { vec![0; 4] });
+        let own = if overflows { [65_535; 2] } else { [count, 0] };
+        self.section(&mut out, [0, 0, self.size, raw, table], own, 0x20);
+        self.section(&mut out, [self.size, self.size, 8, data, 0], [0; 2], 0x40);
+        if overflows {
+            self.section(&mut out, [count, 0, 0, 0, table], [1; 2], 0x8000);
+        }
+        out.resize(table as usize, 0);
+        for &address in &self.addresses {
+            self.word(&mut out, address);
+            out.extend([0; 4]);
+            out.extend(self.kind);
+        }
+        // In section 2, with the empty name.
+        out.extend([0; 12]);
+        out.extend([0, 2, 0, 0, 2, 0]);
+        out
+    }
+
+    /// Physical and virtual address, size, where the raw data and the relocation table are; the counts of both tables.
+    fn section(&self, out: &mut Vec<u8>, numbers: [u64; 5], counts: [u64; 2], flag: u32) {
+        let wide = self.format == Format::Xcoff64;
+        out.extend(b".text\0\0\0");
+        for number in numbers.into_iter().chain([0]) {
+            self.word(out, number);
+        }
+        for count in counts {
+            out.extend(&count.to_be_bytes()[if wide { 4 } else { 6 }..]);
+        }
+        out.extend(flag.to_be_bytes());
+        out.extend(vec![0; if wide { 4 } else { 0 }]);
+    }
+
+    fn word(&self, out: &mut Vec<u8>, n: u64) {
+        let from = if self.format == Format::Xcoff64 { 0 } else { 4 };
+        out.extend(&n.to_be_bytes()[from..]);
     }
 }

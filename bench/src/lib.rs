@@ -8,6 +8,7 @@ pub mod files;
 mod growth;
 mod least;
 mod object_rows;
+mod placed_rows;
 mod processes;
 mod reference_rows;
 mod report;
@@ -57,6 +58,10 @@ pub fn main(object: Option<Object>) {
     growth::rows(&mut report);
     salvage_rows::rows(&mut report);
     rewrite_rows::rows(&mut report);
+    if let Err(problem) = placed_rows::rows(&mut report, &options.xcoff, &options.scratch) {
+        eprintln!("bench: {problem}");
+        exit(3);
+    }
 }
 
 fn options() -> Option<Options> {

@@ -172,6 +172,21 @@ pub struct TableReplay {
     pub accepted: u64,
 }
 
+#[repr(C)]
+pub struct Object {
+    pub head: Head,
+    pub sections: u64,
+    pub entries: u64,
+    pub length: u64,
+}
+
+#[repr(C)]
+pub struct ObjectReplay {
+    pub last: Head,
+    pub calls: u64,
+    pub accepted: u64,
+}
+
 /// The memory of an address table.
 type Table = [u64; 4_097];
 
@@ -357,6 +372,46 @@ extern "C" {
         report: *mut u8,
         report_length: usize,
     ) -> Count;
+    fn xcoff_object(file: *const u8, length: usize) -> Object;
+    fn xcoff_object_sections(
+        file: *const u8,
+        length: usize,
+        rows: *mut u64,
+        numbers: usize,
+    ) -> Head;
+    fn xcoff_object_entries(
+        file: *const u8,
+        length: usize,
+        section: u64,
+        rows: *mut u64,
+        numbers: usize,
+    ) -> Head;
+    fn xcoff_build_object(
+        file: *const u8,
+        length: usize,
+        plan: *const u64,
+        places: usize,
+        buffer: *mut u8,
+        size: usize,
+    ) -> Head;
+    fn xcoff_move_object(
+        file: *const u8,
+        length: usize,
+        from: *const u64,
+        from_places: usize,
+        to: *const u64,
+        to_places: usize,
+        buffer: *mut u8,
+        size: usize,
+    ) -> Head;
+    fn xcoff_replay_object(
+        file: *const u8,
+        length: usize,
+        script: *const u64,
+        numbers: usize,
+        buffer: *mut u8,
+        size: usize,
+    ) -> ObjectReplay;
 }
 
 pub fn version() -> u64 {
@@ -678,6 +733,67 @@ pub fn salvage(file: &[u8], copy: &mut [u8], report: &mut [u8]) -> Count {
             copy.len(),
             report.as_mut_ptr(),
             report.len(),
+        )
+    }
+}
+
+pub fn object(file: &[u8]) -> Object {
+    unsafe { xcoff_object(file.as_ptr(), file.len()) }
+}
+
+pub fn object_sections(file: &[u8], rows: &mut [u64]) -> Head {
+    unsafe { xcoff_object_sections(file.as_ptr(), file.len(), rows.as_mut_ptr(), rows.len()) }
+}
+
+pub fn object_entries(file: &[u8], section: u64, rows: &mut [u64]) -> Head {
+    unsafe {
+        xcoff_object_entries(
+            file.as_ptr(),
+            file.len(),
+            section,
+            rows.as_mut_ptr(),
+            rows.len(),
+        )
+    }
+}
+
+pub fn build_object(file: &[u8], plan: &[u64], buffer: &mut [u8]) -> Head {
+    unsafe {
+        xcoff_build_object(
+            file.as_ptr(),
+            file.len(),
+            plan.as_ptr(),
+            plan.len(),
+            buffer.as_mut_ptr(),
+            buffer.len(),
+        )
+    }
+}
+
+pub fn move_object(file: &[u8], from: &[u64], to: &[u64], buffer: &mut [u8]) -> Head {
+    unsafe {
+        xcoff_move_object(
+            file.as_ptr(),
+            file.len(),
+            from.as_ptr(),
+            from.len(),
+            to.as_ptr(),
+            to.len(),
+            buffer.as_mut_ptr(),
+            buffer.len(),
+        )
+    }
+}
+
+pub fn replay_object(file: &[u8], script: &[u64], buffer: &mut [u8]) -> ObjectReplay {
+    unsafe {
+        xcoff_replay_object(
+            file.as_ptr(),
+            file.len(),
+            script.as_ptr(),
+            script.len(),
+            buffer.as_mut_ptr(),
+            buffer.len(),
         )
     }
 }

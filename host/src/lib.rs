@@ -15,6 +15,7 @@ mod follows;
 mod header;
 mod image;
 mod lines;
+mod object;
 mod place;
 mod records;
 mod refusal;
@@ -33,7 +34,12 @@ pub use image::{
     write_sheet_into, Call, Plan, Reached, Replayed,
 };
 pub use lines::{find_line, line_count, line_table, FoundLine, LineEntry, LineTable};
-pub use place::{places, FieldValue, Place, Value, What};
+pub use object::{
+    build_object, check_object, move_object, move_object_checked, object, object_entries,
+    object_entries_of, object_sections, replay_object, Object, ObjectCall, ObjectEntries,
+    ObjectEntry, ObjectPlan, ObjectReplayed, ObjectSection,
+};
+pub use place::{object_places, places, FieldValue, Place, Value, What};
 pub use records::{read_records, records_length, write_records, write_records_into};
 pub use refusal::Refusal;
 pub use rewrite::{recorded_plan, write_module, write_module_into};

@@ -32,6 +32,8 @@ pub enum What {
     LoaderSymbol(u64),
     /// An entry of the loader section, from 0.
     Relocation(u64),
+    /// An entry of a section's own relocation table, numbered on from table to table.
+    ObjectEntry(u64),
 }
 
 #[derive(Clone, Copy, Debug, PartialEq, Eq)]
@@ -54,7 +56,16 @@ pub enum Value {
 /// Where a refusal points: the header or entry that its item names, of a csect also the auxiliary entry; nothing where the
 /// item names nothing in the file.
 pub fn places<'a>(file: &'a [u8], refusal: &Refusal) -> Vec<Place<'a>> {
-    let Some((what, names)) = named(file, refusal) else {
+    places_of(file, refusal, named(file, refusal))
+}
+
+/// The same of a refusal that an operation on an object file gave: relocation entries are those of the sections' own tables.
+pub fn object_places<'a>(file: &'a [u8], refusal: &Refusal) -> Vec<Place<'a>> {
+    places_of(file, refusal, object_named(file, refusal))
+}
+
+fn places_of<'a>(file: &'a [u8], refusal: &Refusal, named: Option<Named>) -> Vec<Place<'a>> {
+    let Some((what, names)) = named else {
         return Vec::new();
     };
     let first = place(file, what, refusal.offset, names);
@@ -74,6 +85,8 @@ const LSYM: &[&str] = &["l_zeroes", "l_offset", "l_scnum", "l_smtype", "l_ifile"
 const LREL: &[&str] = &["l_vaddr", "l_symndx", "l_rtype", "l_rsecnm"];
 /// Of a section whose raw data is in the file, as in every file that opens.
 const LINE_TABLE: &[&str] = &["s_lnnoptr", "s_nlnno"];
+const RELOCATION_TABLE: &[&str] = &["s_relptr", "s_nreloc"];
+const OBJECT_ENTRY: &[&str] = &["r_vaddr", "r_symndx", "r_rsize", "r_rtype"];
 
 /// What the item of a refusal names, and the fields that its rule speaks of.
 fn named(file: &[u8], r: &Refusal) -> Option<Named> {
@@ -97,6 +110,16 @@ fn named(file: &[u8], r: &Refusal) -> Option<Named> {
         30 => (What::Symbol(i), &["n_type"]),
         _ => return None,
     })
+}
+
+/// The same of an operation on an object file.
+fn object_named(file: &[u8], r: &Refusal) -> Option<Named> {
+    let i = r.item;
+    match r.number {
+        5 if i != 0 && open(file).is_ok() => Some((What::SectionHeader(i), RELOCATION_TABLE)),
+        17 | 18 | 25 => Some((What::ObjectEntry(i), OBJECT_ENTRY)),
+        _ => named(file, r),
+    }
 }
 
 /// LIMIT of a module's loader section; a sheet's has no offset.
@@ -179,6 +202,8 @@ static SECTION_HEADER: Layout = Layout {
         field("s_vaddr", Hex, (12, 4), (16, 8)),
         field("s_size", Number, (16, 4), (24, 8)),
         field("s_scnptr", Number, (20, 4), (32, 8)),
+        field("s_relptr", Number, (24, 4), (40, 8)),
+        field("s_nreloc", Number, (32, 2), (56, 4)),
         field("s_lnnoptr", Number, (28, 4), (48, 8)),
         field("s_nlnno", Number, (34, 2), (60, 4)),
         field("s_flags", Hex, (36, 4), (64, 4)),
@@ -251,6 +276,16 @@ static RELOCATION: Layout = Layout {
     ],
 };
 
+static OBJECT_ENTRY_LAYOUT: Layout = Layout {
+    lengths: [10, 14],
+    fields: &[
+        field("r_vaddr", Hex, (0, 4), (0, 8)),
+        field("r_symndx", Number, (4, 4), (8, 4)),
+        field("r_rsize", Hex, (8, 1), (12, 1)),
+        field("r_rtype", Hex, (9, 1), (13, 1)),
+    ],
+};
+
 fn layout(what: What) -> &'static Layout {
     match what {
         What::SectionHeader(_) => &SECTION_HEADER,
@@ -260,6 +295,7 @@ fn layout(what: What) -> &'static Layout {
         What::LoaderSection(..) => &LOADER_HEADER,
         What::LoaderSymbol(_) => &LOADER_SYMBOL,
         What::Relocation(_) => &RELOCATION,
+        What::ObjectEntry(_) => &OBJECT_ENTRY_LAYOUT,
     }
 }
 
@@ -350,7 +386,7 @@ impl fmt::Display for What {
                 write!(f, "header of the loader section (section {n}, size {size})")
             }
             What::LoaderSymbol(i) => write!(f, "loader symbol {i}"),
-            What::Relocation(i) => write!(f, "relocation entry {i}"),
+            What::Relocation(i) | What::ObjectEntry(i) => write!(f, "relocation entry {i}"),
         }
     }
 }

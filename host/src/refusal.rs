@@ -40,6 +40,7 @@ impl Refusal {
             22 => "RECORD",
             23 => "FORM",
             24 => "CLASH",
+            25 => "RANGE",
             26 => "FULL",
             27 => "ABSENT",
             28 => "LONG",
@@ -80,6 +81,7 @@ impl Refusal {
             22 => format!("line {i} of the record text is not the line that is written there, or is missing or one too many"),
             23 => "S-records are for XCOFF32 modules only".into(),
             24 => "the text and data images share an address".into(),
+            25 => format!("the branch of relocation entry {i} would leave -33,554,432 to 33,554,428, or be off a step of 4"),
             26 => "all 512 rows of the address table are taken, and this one is new".into(),
             27 => "the bench has no such row in the address table".into(),
             28 => "a name in the address table has 1 to 32 bytes".into(),
@@ -88,6 +90,20 @@ impl Refusal {
             31 => "no entry of the line table has an address at or below the one asked for".into(),
             32 => "the line table has a line before any function".into(),
             _ => "no such number".into(),
+        }
+    }
+
+    /// What it means where an operation on an object file gives it.
+    pub fn object_meaning(&self) -> String {
+        let i = self.item;
+        match self.number {
+            5 if i != 0 => format!("the raw data or relocation table of section {i} passes the file's end, or the table's overflow header is not there exactly once"),
+            8 => format!("there is no text or data section {i}"),
+            13 => "a text or data section of the object file has no raw data".into(),
+            17 => format!("the type, width, address or symbol of relocation entry {i} is bad"),
+            19 => format!("section {i} at the plan's address passes the end of the address space"),
+            20 if i == 0 => "the image of the object file is not exactly as long as needed".into(),
+            _ => self.meaning(),
         }
     }
 }

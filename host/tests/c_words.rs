@@ -36,12 +36,9 @@ typedef struct xcoff_words {
     const char *meaning;
 } xcoff_words;
 
-static inline const xcoff_words *xcoff_words_of(uint64_t number, uint64_t item)
+/* The first row of a number, or the last row; then the item's own, or that of all others. */
+static inline const xcoff_words *xcoff_words_in(const xcoff_words *all, uint64_t number, uint64_t item)
 {
-    static const xcoff_words all[] = {
-"#;
-
-const END: &str = r#"    };
     size_t n = 0;
     while (all[n].number != number && all[n].number != 0)
         n++;
@@ -50,16 +47,35 @@ const END: &str = r#"    };
     return &all[n];
 }
 
+static inline const xcoff_words *xcoff_words_of(uint64_t number, uint64_t item)
+{
+    static const xcoff_words all[] = {
+"#;
+
+const OBJECT: &str = r#"    };
+    return xcoff_words_in(all, number, item);
+}
+
+/* The same where a function on an object file refuses: of some numbers it has other items. */
+static inline const xcoff_words *xcoff_object_words_of(uint64_t number, uint64_t item)
+{
+    static const xcoff_words all[] = {
+"#;
+
+const END: &str = r#"    };
+    const xcoff_words *own = xcoff_words_in(all, number, item);
+    return own->number ? own : xcoff_words_of(number, item);
+}
+
 /* A number's name, such as "LIMIT". */
 static inline const char *xcoff_refusal_name(uint64_t number)
 {
     return xcoff_words_of(number, 0)->name;
 }
 
-/* "refused N I O: NAME, what it means", cut where `room` bytes are too few, as snprintf does; its answer is snprintf's. */
-static inline int xcoff_refusal_words(uint64_t number, uint64_t item, uint64_t offset, char *text, size_t room)
+static inline int xcoff_words_put(const xcoff_words *words, uint64_t number, uint64_t item, uint64_t offset, char *text,
+                                  size_t room)
 {
-    const xcoff_words *words = xcoff_words_of(number, item);
     const char *rest = words->meaning;
     char meaning[400];
     size_t used = 0;
@@ -73,6 +89,18 @@ static inline int xcoff_refusal_words(uint64_t number, uint64_t item, uint64_t o
     meaning[used] = 0;
     return snprintf(text, room, "refused %" PRIu64 " %" PRIu64 " %" PRIu64 ": %s, %s", number, item, offset, words->name,
                     meaning);
+}
+
+/* "refused N I O: NAME, what it means", cut where `room` bytes are too few, as snprintf does; its answer is snprintf's. */
+static inline int xcoff_refusal_words(uint64_t number, uint64_t item, uint64_t offset, char *text, size_t room)
+{
+    return xcoff_words_put(xcoff_words_of(number, item), number, item, offset, text, room);
+}
+
+/* The same of a refusal by a function on an object file. */
+static inline int xcoff_object_refusal_words(uint64_t number, uint64_t item, uint64_t offset, char *text, size_t room)
+{
+    return xcoff_words_put(xcoff_object_words_of(number, item), number, item, offset, text, room);
 }
 
 #ifdef __cplusplus
@@ -90,32 +118,45 @@ fn refusal(number: u64, item: u64) -> Refusal {
     }
 }
 
+/// The rows of a number: one for each item that has words of its own, and one for all others.
+fn rows(text: &mut String, number: u64, meaning: fn(&Refusal) -> String) {
+    let name = refusal(number, 0).name();
+    let any = meaning(&refusal(number, ANY)).replace(&ANY.to_string(), "%");
+    let mut row = |one: u8, item: u64, meaning: &str| {
+        assert!(!meaning.contains(['"', '\\']) && meaning.len() < 350);
+        writeln!(
+            text,
+            "        {{{number}, {one}, {item}, \"{name}\", \"{meaning}\"}},"
+        )
+        .unwrap();
+    };
+    for item in 0..10 {
+        let own = meaning(&refusal(number, item));
+        if own != any.replace('%', &item.to_string()) {
+            row(1, item, &own);
+        }
+    }
+    row(0, 0, &any);
+}
+
 fn made() -> String {
     let mut text = START.to_string();
-    let known = (1..100).filter(|&n| refusal(n, 0).name() != "UNKNOWN");
+    let known = || (1..100).filter(|&n| refusal(n, 0).name() != "UNKNOWN");
     // The last row, with number 0, is for every other number.
-    for number in known.chain([0]) {
-        let name = refusal(number, 0).name();
-        let any = refusal(number, ANY)
-            .meaning()
-            .replace(&ANY.to_string(), "%");
-        let mut row = |one: u8, item: u64, meaning: &str| {
-            assert!(!meaning.contains(['"', '\\']) && meaning.len() < 350);
-            writeln!(
-                text,
-                "        {{{number}, {one}, {item}, \"{name}\", \"{meaning}\"}},"
-            )
-            .unwrap();
-        };
-        for item in 0..10 {
-            let own = refusal(number, item).meaning();
-            if own != any.replace('%', &item.to_string()) {
-                row(1, item, &own);
-            }
-        }
-        row(0, 0, &any);
+    for number in known().chain([0]) {
+        rows(&mut text, number, Refusal::meaning);
+    }
+    text += OBJECT;
+    let items = || (0..10).chain([ANY]);
+    let differs = |&n: &u64| items().any(|i| is_another(&refusal(n, i)));
+    for number in known().filter(differs).chain([0]) {
+        rows(&mut text, number, Refusal::object_meaning);
     }
     text + END
+}
+
+fn is_another(refusal: &Refusal) -> bool {
+    refusal.meaning() != refusal.object_meaning()
 }
 
 fn root() -> PathBuf {
@@ -158,6 +199,8 @@ int main(void)
         for (uint64_t i = 0; i < 12; i++) {
             xcoff_refusal_words(n, i == 11 ? UINT64_MAX : i, n * i, text, sizeof text);
             puts(text);
+            xcoff_object_refusal_words(n, i == 11 ? UINT64_MAX : i, n * i, text, sizeof text);
+            puts(text);
         }
     return xcoff_refusal_words(1, 2, 3, text, 9) < 9 || strcmp(text, "refused ") != 0;
 }
@@ -193,6 +236,10 @@ int main(void)
                 offset,
             };
             writeln!(expected, "{refusal}").unwrap();
+            let name = refusal.name();
+            let meaning = refusal.object_meaning();
+            let numbers = format!("refused {number} {item} {offset}");
+            writeln!(expected, "{numbers}: {name}, {meaning}").unwrap();
         }
     }
     assert_eq!(String::from_utf8(ran.stdout).unwrap(), expected);

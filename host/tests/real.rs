@@ -185,6 +185,7 @@ fn told(file: &[u8], fact: &str) -> String {
         "symbol" => told_symbol(file, index),
         "csect" => told_csect(file, index),
         "lrel" => told_relocations(file, fact),
+        "rel" => told_entries(file, fact),
         "tables" => told_tables(file, index),
         "lines" => told_lines(file, &hex_words(fact, 5)),
         "source" => told_source(file, &hex_words(fact, 3)),
@@ -430,8 +431,8 @@ fn has_bad_visibility(words: &[&str]) -> bool {
     words[0] == "symbol" && ["/5", "/6", "/7"].iter().any(|end| words[3].ends_with(end))
 }
 
-/// Whether the rules refuse what a listing shows: a file that is not opened, a module that is not loadable, or the csect of a
-/// symbol that is refused for its visibility.
+/// Whether the rules refuse what a listing shows: a file that is not opened, a module that is not loadable, a file with entries
+/// that no object file may have, or the csect of a symbol that is refused for its visibility.
 fn refused_by_rule(file: &[u8], fact: &str) -> bool {
     let words: Vec<&str> = fact.split(' ').collect();
     if xcoff::open(file).is_err() {
@@ -439,6 +440,7 @@ fn refused_by_rule(file: &[u8], fact: &str) -> bool {
     }
     match words[0] {
         "module" | "loader" | "lsym" | "id" | "lrel" => xcoff::module(file).is_err(),
+        "rel" => xcoff::object(file).is_err(),
         "csect" => {
             let refusal = bad_visibility(file, words[1]);
             xcoff::csect(file, refusal.item).err() == Some(refusal)
@@ -539,6 +541,30 @@ fn told_relocations(file: &[u8], fact: &str) -> String {
     fact.into()
 }
 
+/// How many entries a fact `rel SECTION INDEX COUNT STEP ADDRESS SIZE TYPE SYMBOLS` has, and these: address, size, type, symbol.
+fn section_entries(fact: &str) -> Vec<Listed> {
+    let (_, rest) = fact.split_once(' ').expect("a section");
+    entries(rest)
+}
+
+/// The library's entries of a section's own table at the places of a fact: the fact itself where they are the same.
+fn told_entries(file: &[u8], fact: &str) -> String {
+    let words = hex_words(fact, 2);
+    let rows = match xcoff::object_entries(file, words[0]) {
+        Err(r) => return format!("rel: {r}"),
+        Ok(rows) => rows,
+    };
+    let rows = rows.rows().skip(words[1] as usize);
+    let told: Vec<Listed> = rows
+        .map(|e| (e.address, e.rsize, e.rtype, e.symbol))
+        .collect();
+    let expected = section_entries(fact);
+    match told.get(..expected.len()) == Some(&expected) {
+        true => fact.into(),
+        false => format!("entries from {:x} on: {told:x?}", words[1]),
+    }
+}
+
 #[test]
 fn every_real_file_reads_as_other_tools_list_it() {
     let stored = stored("facts.txt");
@@ -553,10 +579,10 @@ fn every_real_file_reads_as_other_tools_list_it() {
                 continue;
             }
             let word = fact.split(' ').next().expect("a word");
-            *compared.entry(word).or_default() += if word == "lrel" {
-                entries(fact).len() as u64
-            } else {
-                1
+            *compared.entry(word).or_default() += match word {
+                "lrel" => entries(fact).len() as u64,
+                "rel" => section_entries(fact).len() as u64,
+                _ => 1,
             };
             let got = told(&file, fact);
             if got != meant(&file, fact) {
@@ -575,13 +601,50 @@ fn every_real_file_reads_as_other_tools_list_it() {
         ("lines", 22),
         ("lsym", 618),
         ("module", 129),
+        ("rel", 1_791),
         ("section", 864),
         ("source", 24),
         ("symbol", 3_294),
         ("tables", 864),
     ];
     assert_eq!(compared, BTreeMap::from(counts));
-    assert_eq!(passed_over, 675);
+    assert_eq!(passed_over, 1_460);
+}
+
+/// A linked file, and some that a compiler wrote, have entries of types that no object file may have: the first of these by the
+/// listing is the one that is named.
+#[test]
+fn every_real_object_that_is_refused_names_the_first_entry_listed_so() {
+    let stored = stored("facts.txt");
+    let mut named = 0;
+    for (name, facts) in facts(&stored) {
+        let file = real(name);
+        let Err(Refusal {
+            number: 17, item, ..
+        }) = xcoff::object(&file)
+        else {
+            continue;
+        };
+        let wide = xcoff::open(&file).unwrap().format == Format::Xcoff64;
+        let is_in_image = |fact: &&&str| {
+            let kind = xcoff::section(&file, hex_words(fact, 1)[0]).map(|s| s.kind);
+            matches!(kind, Ok(Kind::Text | Kind::Data))
+        };
+        let entries = facts.iter().filter(|fact| fact.starts_with("rel "));
+        let mut entries = entries
+            .filter(is_in_image)
+            .flat_map(|fact| section_entries(fact));
+        let is_taken = |(_, size, rtype, _): &Listed| match rtype {
+            0x0F => true,
+            0x08 | 0x0A | 0x18 | 0x1A => size & 0x3F == 25,
+            0x00 | 0x01 | 0x0C | 0x0D => size & 0x3F == 31 || wide && size & 0x3F == 63,
+            _ => false,
+        };
+        let first = entries.position(|entry| !is_taken(&entry));
+        assert_eq!(first.map(|i| i as u64), Some(item), "{name}");
+        named += 1;
+    }
+    assert_eq!(named, 98);
 }
 
 // ---- visibilities

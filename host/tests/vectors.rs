@@ -7,7 +7,9 @@ use reference::{RowKey, TableAnswer, TableCall};
 use std::collections::BTreeMap;
 use std::fmt::Write;
 use std::path::PathBuf;
-use xcoff::{AddressTable, Anchor, Call, CsectType, Format, Plan, Reached, Refusal};
+use xcoff::{
+    AddressTable, Anchor, Call, CsectType, Format, ObjectCall, ObjectPlan, Plan, Reached, Refusal,
+};
 
 // ---- the words of a line
 
@@ -265,6 +267,34 @@ fn find_line(file: &[u8], section: u64, address: u64) -> Result<String, Refusal>
     ))
 }
 
+fn object(file: &[u8]) -> Result<String, Refusal> {
+    let o = xcoff::object(file)?;
+    let sections = xcoff::object_sections(file)?;
+    assert_eq!(sections.len() as u64, o.sections);
+    let format = bits(xcoff::open(file)?.format);
+    let mut parts = vec![format!("{format} {:x}", o.length)];
+    let mut entries = Vec::new();
+    for (n, own) in (1..).zip(&sections) {
+        let Ok(table) = xcoff::object_entries(file, n) else {
+            continue;
+        };
+        assert_eq!(
+            (table.len() as u64, entries.len() as u64),
+            (own.entries, own.first)
+        );
+        parts.push(format!("{n:x}@{:x}", own.place));
+        entries.extend(table.rows().map(|e| {
+            format!(
+                "{n:x} {:x} {:x} {:x} {:x} {:x} {:x}",
+                e.address, e.symbol, e.rsize, e.rtype, e.width, e.place
+            )
+        }));
+    }
+    assert_eq!(entries.len() as u64, o.entries);
+    parts.extend(entries);
+    Ok(parts.join(" ; "))
+}
+
 /// The header lister's text, from the library's answers; a newline as |.
 fn listed(file: &[u8]) -> String {
     if file.len() > 65_536 {
@@ -336,6 +366,43 @@ fn calls(file: &[u8], words: &mut Words) -> String {
         replayed_text == text && replayed_data == data,
         "a replay leaves something else"
     );
+    parts.join(" ; ")
+}
+
+fn object_plan(words: &mut Words) -> ObjectPlan {
+    ObjectPlan {
+        addresses: numbers(next(words)),
+    }
+}
+
+/// Builds and moves of an object file, one after the other on its buffer, as [`calls`].
+fn object_calls(file: &[u8], words: &mut Words) -> String {
+    let before = bytes(next(words));
+    let mut buffer = before.clone();
+    let mut list = Vec::new();
+    let mut parts = Vec::new();
+    let mut answers = Vec::new();
+    while let Some(word) = words.next() {
+        let call = match word {
+            "build" => ObjectCall::Build(object_plan(words)),
+            _ => ObjectCall::Move(object_plan(words), object_plan(words)),
+        };
+        let old = buffer.clone();
+        let answer = match &call {
+            ObjectCall::Build(p) => xcoff::build_object(file, p, &mut buffer),
+            ObjectCall::Move(p, q) => xcoff::move_object(file, p, q, &mut buffer),
+        };
+        answers.push(answer);
+        let answer = given(answer.map(|()| "placed".into()));
+        parts.push(format!("{answer} / {}", shown(&old, &buffer)));
+        list.push(call);
+    }
+    let mut replayed = before;
+    let all = xcoff::replay_object(file, &list, &mut replayed);
+    let accepted = answers.iter().filter(|answer| answer.is_ok()).count() as u64;
+    assert_eq!((all.calls, all.accepted), (list.len() as u64, accepted));
+    assert_eq!(all.last, *answers.last().expect("a call"));
+    assert!(replayed == buffer, "a replay leaves something else");
     parts.join(" ; ")
 }
 
@@ -511,6 +578,17 @@ fn their_calls(words: &mut Words) -> Vec<reference::Call> {
     calls
 }
 
+fn their_object_calls(words: &mut Words) -> Vec<reference::ObjectCall> {
+    let mut calls = Vec::new();
+    while let Some(word) = words.next() {
+        calls.push(match word {
+            "build" => reference::ObjectCall::Build(numbers(next(words))),
+            _ => reference::ObjectCall::Move(numbers(next(words)), numbers(next(words))),
+        });
+    }
+    calls
+}
+
 /// The answers of the second implementation to calls on a table; each fill has a file of its own.
 fn their_table(words: &mut Words) -> String {
     let refused = |r: &reference::Refusal| format!("refused {} {} {}", r.number, r.item, r.offset);
@@ -565,6 +643,11 @@ fn operation(asked: &str) -> Op {
             data: bytes(next(words)),
             calls: their_calls(words),
         },
+        "object" => Op::Object,
+        "object_calls" => Op::ObjectCalls {
+            buffer: bytes(next(words)),
+            calls: their_object_calls(words),
+        },
         "sheet_read" => Op::ReadSheet {
             sheet: bytes(next(words)),
             list: numbers(next(words)),
@@ -617,6 +700,8 @@ fn answer(file: &[u8], asked: &str) -> String {
         "table" => table(&mut words),
         "list" => listed(file),
         "calls" => calls(file, &mut words),
+        "object" => given(object(file)),
+        "object_calls" => object_calls(file, &mut words),
         "sheet_read" => sheet_read(&mut words),
         "sheet_write" => sheet_write(&mut words),
         "srecord_write" => srecord_write(file, &mut words),
@@ -738,31 +823,38 @@ fn every_recorded_case_of_request_10_is_answered_as_recorded() {
 }
 
 #[test]
+fn every_recorded_case_of_request_5_is_answered_as_recorded() {
+    let counts = check("cases-05.txt", |answer| answer);
+    assert_eq!(counts.values().sum::<u64>(), 600);
+    assert_eq!((counts["object"], counts["object_calls"]), (44, 277));
+}
+
+#[test]
 fn every_recorded_case_of_request_7_is_answered_as_recorded() {
     let counts = check("cases-07.txt", |answer| answer);
-    assert_eq!(counts.values().sum::<u64>(), 555);
-    assert_eq!(counts.len(), 15, "{counts:?}");
+    assert_eq!(counts.values().sum::<u64>(), 600);
+    assert_eq!(counts.len(), 17, "{counts:?}");
     assert_eq!(counts["find_line"], 268);
 }
 
 #[test]
 fn every_recorded_case_of_request_6_is_answered_as_recorded() {
     let counts = check("cases-06.txt", |answer| answer);
-    assert_eq!(counts.values().sum::<u64>(), 552);
-    assert_eq!(counts.len(), 15, "{counts:?}");
+    assert_eq!(counts.values().sum::<u64>(), 589);
+    assert_eq!(counts.len(), 17, "{counts:?}");
     assert_eq!(counts["table"], 242);
 }
 
 #[test]
 fn every_recorded_case_of_request_8_is_answered_as_recorded() {
     let counts = check("cases-08.txt", |answer| answer);
-    assert_eq!(counts.values().sum::<u64>(), 544);
+    assert_eq!(counts.values().sum::<u64>(), 577);
     assert_eq!(counts["write_module"], 274);
 }
 
 #[test]
 fn every_recorded_case_of_request_12_is_answered_as_recorded() {
     let counts = check("cases-12.txt", |answer| answer);
-    assert_eq!(counts.values().sum::<u64>(), 560);
+    assert_eq!(counts.values().sum::<u64>(), 578);
     assert_eq!((counts["salvage"], counts["walk"]), (260, 113));
 }

@@ -1,4 +1,5 @@
-/* Calls every function of include/xcoff.h and xcoff_inline.h from C on the real file tests/corpus/exe-imports-32, named as argument. */
+/* Calls every function of include/xcoff.h and xcoff_inline.h from C on the real files tests/corpus/exe-imports-32 and
+   tests/corpus/gas-objpair-32.o, named as arguments. */
 #include "xcoff_inline.h"
 #include "xcoff_words.h"
 
@@ -555,6 +556,98 @@ static void nothing(void)
     EXPECT(xcoff_salvage_count(NULL, 0).number == 1 && xcoff_salvage(NULL, 0, NULL, 0, NULL, 0).number == 1);
 }
 
+static uint32_t word_at(const uint8_t *bytes)
+{
+    return (uint32_t)bytes[0] << 24 | (uint32_t)bytes[1] << 16 | (uint32_t)bytes[2] << 8 | bytes[3];
+}
+
+/* The tables of an object file. */
+static void object_rows(const uint8_t *object, size_t size)
+{
+    static xcoff_object_section_row sections[4];
+    static xcoff_object_entry_row entries[14];
+    xcoff_object_answer o = xcoff_object(object, size);
+    xcoff_verdict v;
+    EXPECT(ACCEPTED(o) && o.sections == 3 && o.entries == 24 && o.length == 112);
+    memset(sections, 0x55, sizeof sections);
+    v = xcoff_object_sections(object, size, (uint64_t *)sections, 16);
+    EXPECT(REFUSED(v, 20, 0, 0) && sections[0].place == 0x5555555555555555);
+    v = xcoff_object_section_rows(object, size, sections, 3);
+    EXPECT(ACCEPTED(v) && sections[3].place == 0x5555555555555555);
+    EXPECT(sections[0].place == 0 && sections[0].size == 64 && sections[0].table == 280);
+    EXPECT(sections[0].entries == 11 && sections[0].first == 0);
+    EXPECT(sections[1].place == 64 && sections[1].size == 48 && sections[1].table == 390);
+    EXPECT(sections[1].entries == 13 && sections[1].first == 11);
+    EXPECT(sections[2].size == 0 && sections[2].table == 0 && sections[2].entries == 0);
+    v = xcoff_object_entries(object, size, 3, NULL, 0);
+    EXPECT(REFUSED(v, 8, 3, 0));
+    v = xcoff_object_entries(object, size, UINT64_MAX, NULL, 0);
+    EXPECT(REFUSED(v, 8, UINT64_MAX, 0));
+    memset(entries, 0x55, sizeof entries);
+    v = xcoff_object_entry_rows(object, size, 2, entries, 12);
+    EXPECT(REFUSED(v, 20, 0, 0) && entries[0].address == 0x5555555555555555);
+    v = xcoff_object_entry_rows(object, size, 2, entries, 13);
+    EXPECT(ACCEPTED(v) && entries[13].address == 0x5555555555555555);
+    EXPECT(entries[2].address == 0x48 && entries[2].symbol == 6 && entries[2].rsize == 0x19 && entries[2].rtype == 8);
+    EXPECT(entries[2].width == 26 && entries[2].place == 72);
+    EXPECT(entries[12].rtype == 1 && entries[12].width == 32 && entries[12].place == 108);
+    v = xcoff_object_entry_rows(object, size, 1, entries, 11);
+    EXPECT(ACCEPTED(v) && entries[0].rtype == 15 && entries[0].width == 0 && entries[0].place == 0);
+}
+
+/* An object file built, moved, replayed; a branch that leaves its range. */
+static void object_placed(const uint8_t *object, size_t size)
+{
+    static const uint64_t one[] = {0x10000, 0x80000, 0x80400}, two[] = {0x40000, 0xc0000, 0xc0400};
+    static const uint64_t far[] = {0, 0x8000000, 0}, past[] = {0xffffffc1, 0, 0};
+    static const uint64_t script[] = {0, 3, 0x10000, 0x80000, 0x80400, 0, 3, 0, 0x8000000, 0,
+                                      7, 3, 0x10000, 0x80000, 0x80400, 3, 0x40000, 0xc0000, 0xc0400, 0, 4, 1};
+    static uint8_t built[113], moved[113], replayed[112];
+    char words[300];
+    xcoff_object_replay_answer r;
+    xcoff_verdict v;
+    memset(built, 0x77, sizeof built);
+    v = xcoff_build_object(object, size, one, 2, built, 112);
+    EXPECT(REFUSED(v, 20, 2, 0));
+    v = xcoff_build_object(object, size, past, 3, built, 113);
+    EXPECT(REFUSED(v, 19, 1, 0));
+    v = xcoff_build_object(object, size, far, 3, built, 113);
+    EXPECT(REFUSED(v, 20, 0, 0));
+    v = xcoff_build_object(object, size, far, 3, built, 112);
+    EXPECT(REFUSED(v, 25, 5, 330) && built[0] == 0x77 && built[111] == 0x77);
+    EXPECT(xcoff_object_refusal_words(19, 1, 0, words, sizeof words) > 0);
+    EXPECT(strcmp(words, "refused 19 1 0: PLAN, section 1 at the plan's address passes the end of the address space") == 0);
+    v = xcoff_build_object(object, size, one, 3, built, 112);
+    EXPECT(ACCEPTED(v) && built[112] == 0x77);
+    EXPECT(word_at(built + 8) == 0x48010037 && word_at(built + 20) == 0x4806ffed && word_at(built + 64) == 0x4bf90001);
+    memcpy(moved, built, sizeof moved);
+    v = xcoff_move_object(object, size, one, 3, far, 3, moved, 112);
+    EXPECT(REFUSED(v, 25, 5, 330) && memcmp(moved, built, sizeof moved) == 0);
+    v = xcoff_move_object(object, size, one, 3, two, 3, moved, 112);
+    EXPECT(ACCEPTED(v) && moved[112] == 0x77);
+    EXPECT(word_at(moved + 8) == 0x48040037 && word_at(moved + 20) == 0x4807ffed && word_at(moved + 64) == 0x4bf80001);
+    r = xcoff_replay_object(object, size, script, sizeof script / sizeof *script, replayed, 112);
+    EXPECT(ACCEPTED(r) && r.calls == 3 && r.accepted == 2 && memcmp(replayed, moved, 112) == 0);
+    r = xcoff_replay_object(object, size, script, 10, replayed, 112);
+    EXPECT(REFUSED(r, 25, 5, 330) && r.calls == 2 && r.accepted == 1 && memcmp(replayed, built, 112) == 0);
+    v = xcoff_move_object(object, size, two, 3, one, 3, moved, 112);
+    EXPECT(ACCEPTED(v) && memcmp(moved, built, sizeof moved) == 0);
+}
+
+static void object_file(const uint8_t *object, size_t size)
+{
+    xcoff_object_answer o = xcoff_object(file, length);
+    xcoff_verdict v = xcoff_object_sections(file, length, NULL, 0);
+    /* A linked file has entries of other types. */
+    EXPECT(o.number == 17 && o.sections == 0 && o.entries == 0 && o.length == 0 && SAME_HEAD(o, v));
+    EXPECT(xcoff_object(NULL, 0).number == 1 && xcoff_build_object(NULL, 0, NULL, 0, NULL, 0).number == 1);
+    EXPECT(xcoff_object_entries(NULL, 0, 1, NULL, 0).number == 1);
+    EXPECT(xcoff_move_object(NULL, 0, NULL, 0, NULL, 0, NULL, 0).number == 1);
+    EXPECT(xcoff_replay_object(NULL, 0, NULL, 0, NULL, 0).number == 0);
+    object_rows(object, size);
+    object_placed(object, size);
+}
+
 /* Plans as structs, tables by rows, names for numbers: the same as the exports. */
 static void inlines(void)
 {
@@ -624,13 +717,18 @@ static void inlines(void)
 
 int main(int argc, char **argv)
 {
-    FILE *in = argc == 2 ? fopen(argv[1], "rb") : NULL;
-    if (in == NULL) {
-        printf("c: usage: check FILE\n");
+    static uint8_t object[4096];
+    size_t size;
+    FILE *in = argc == 3 ? fopen(argv[1], "rb") : NULL;
+    FILE *other = argc == 3 ? fopen(argv[2], "rb") : NULL;
+    if (in == NULL || other == NULL) {
+        printf("c: usage: check FILE OBJECT\n");
         return 2;
     }
     length = fread(file, 1, sizeof file, in);
+    size = fread(object, 1, sizeof object, other);
     fclose(in);
+    fclose(other);
     headers();
     symbols();
     visibilities();
@@ -647,6 +745,7 @@ int main(int argc, char **argv)
     inlines();
     module_written();
     salvaged();
+    object_file(object, size);
     nothing();
     return failed;
 }

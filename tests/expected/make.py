@@ -2,6 +2,7 @@
 """Makes verdicts.txt and facts.txt of this folder.
 
 usage: make.py CORPUS
+       make.py --entries LISTING      the facts `rel` of one file, from what llvm-readobj --relocs --expand-relocs prints
 
 CORPUS holds verdicts.txt and listings/NAME.txt (or NAME.txt.xz), one for each file NAME of ../corpus and ../pairs (see
 README.md here). Listings are what llvm-readobj 19 and 14, GNU objdump and GNU nm print; where two of them print the
@@ -212,16 +213,71 @@ def relocation_facts(text, dynamic):
     told = re.findall(r"^([0-9a-f]+) R_POS +(\S+)$", dynamic.partition("DYNAMIC RELOCATION RECORDS")[2], flags=re.M)
     if told and [(int(a, 16), n) for a, n in told] != [(r[0], r[4]) for r in rows]:
         sys.exit("relocations: objdump differs")
+    return ["lrel " + run for run in entry_runs((address, (rtype, section), symbol) for address, rtype, section, symbol, _ in rows)]
+
+
+def entry_runs(rows):
+    """Address, what is the same of entries in a run, and symbol: INDEX COUNT DISTANCE ADDRESS, what is the same, SYMBOLS."""
     runs = []
-    for index, (address, rtype, section, symbol, _) in enumerate(rows):
+    for index, (address, same, symbol) in enumerate(rows):
         last = runs[-1] if runs else None
-        if last and last["same"] == (rtype, section) and last["step"] in (None, address - last["end"]):
+        if last and last["same"] == same and last["step"] in (None, address - last["end"]):
             last.update(step=address - last["end"], end=address)
             last["symbols"].append(symbol)
         else:
-            runs.append(dict(index=index, start=address, end=address, step=None, same=(rtype, section), symbols=[symbol]))
-    return ["lrel %x %x %d %x %x %x %s" % (r["index"], len(r["symbols"]), r["step"] or 0, r["start"], *r["same"],
-                                           ",".join(str(n) for n in cycle(r["symbols"]))) for r in runs]
+            runs.append(dict(index=index, start=address, end=address, step=None, same=same, symbols=[symbol]))
+    return ["%x %x %d %x %s %s" % (r["index"], len(r["symbols"]), r["step"] or 0, r["start"], " ".join("%x" % n for n in r["same"]),
+                                   ",".join(str(n) for n in cycle(r["symbols"]))) for r in runs]
+
+
+ENTRY = re.compile(r" +Virtual Address: 0x([0-9A-F]+)\n +Symbol: (.*) \((\d+)\)\n +IsSigned: (Yes|No)\n +FixupBitValue: (\d)\n"
+                   r" +Length: (\d+)\n +Type: (\w+) \(0x([0-9A-F]+)\)\n")
+
+
+def section_entries(text):
+    """By section: address, symbol, size, type, and the names of symbol and type, as llvm-readobj lists the sections' own tables."""
+    found = {}
+    for section in re.finditer(r"^  Section \(index: (\d+)\) [^\n]* \{\n(.*?)^  \}", text, flags=re.M | re.S):
+        rows = []
+        for a, name, symbol, signed, fixup, length, kind, rtype in ENTRY.findall(section.group(2)):
+            size = (signed == "Yes") << 7 | int(fixup) << 6 | int(length) - 1
+            rows.append((int(a, 16), int(symbol), size, int(rtype, 16), name, kind))
+        if len(rows) != section.group(2).count("Relocation {"):
+            sys.exit("section %s: an entry is not understood" % section.group(1))
+        found[int(section.group(1))] = rows
+    return found
+
+
+def section_entry_facts(text):
+    facts = []
+    for section, rows in sorted(section_entries(text).items()):
+        runs = entry_runs((address, (size, rtype), symbol) for address, symbol, size, rtype, *_ in rows)
+        facts += ["rel %x %s" % (section, run) for run in runs]
+    return facts
+
+
+def check_entries(text, gnu, facts):
+    """objdump -r: offset in the section, the symbol's name and the type's, without the width that it appends to some. At some
+    widths it ends with an internal error."""
+    if "internal error" in gnu:
+        return
+    addresses = {}
+    for fact in facts:
+        words = fact.split(" ", 7)
+        if words[0] == "section":
+            addresses[int(words[1], 16)] = int(words[3], 16)
+    told = []
+    for part in re.split(r"^RELOCATION RECORDS FOR ", gnu, flags=re.M)[1:]:
+        told.append([(int(o, 16), kind, re.sub(r"[-+]0x[0-9a-f]+$", "", value))
+                     for o, kind, value in re.findall(r"^([0-9a-f]{8,16}) (R_\w+) +(.*)$", part, flags=re.M)])
+    own = []
+    for section, rows in sorted(section_entries(text).items()):
+        own.append([(a - addresses[section], kind, name) for a, _, _, _, name, kind in rows])
+    if len(told) != len(own) or any(len(t) != len(o) for t, o in zip(told, own)):
+        sys.exit("entries of sections: objdump lists another number")
+    for t, o in zip((t for part in told for t in part), (o for part in own for o in part)):
+        if t[0] != o[0] or not t[1].startswith(o[1]) or t[2] != o[2]:
+            sys.exit("entries of sections: objdump has %r, llvm-readobj %r" % (t, o))
 
 
 def cycle(values):
@@ -379,6 +435,9 @@ def facts_of(listing):
         facts += symbol_facts(found["llvm-readobj-19 --syms"], found["GNU objdump -x"], sections, version_2(auxiliary, bits))
         if "GNU nm -A" in found:
             check_names(found["GNU objdump -x"], found["GNU nm -A"])
+        entries = found.get("llvm-readobj-19 --relocs --expand-relocs", "")
+        check_entries(entries, found["GNU objdump -x"], facts)
+        facts += section_entry_facts(entries)
         lines = line_facts(found["GNU objdump -x"])
         facts += lines
         if lines:
@@ -413,6 +472,10 @@ def write_facts(corpus):
 
 
 def main():
+    if sys.argv[1] == "--entries":
+        with open(sys.argv[2], encoding="latin-1") as f:
+            sys.stdout.write("".join(fact + "\n" for fact in section_entry_facts(f.read())))
+        return
     write_verdicts(sys.argv[1])
     write_facts(sys.argv[1])
 

@@ -206,6 +206,35 @@ def changes(before, after):
     return ",".join(runs) or "-"
 
 
+def object_read(o):
+    """The bits and the image's length, where each text and data section starts in it, the entries."""
+    head = "%d %x" % (int(o["o"]["fmt"][5:]), o["size"])
+    placed = ["%x@%x" % (p["number"], o["starts"][str(p["number"])]) for p in o["placed"]]
+    entries = [words(e, "own_section", "address", "symbol", "rsize", "rtype", "width", "place") for e in o["entries"]]
+    return " ; ".join([head] + placed + entries)
+
+
+def object_call(c):
+    if c["call"] == "build":
+        return "build " + numbers(c["plan"])
+    return "move %s %s" % (numbers(c["from"]), numbers(c["to"]))
+
+
+def object_case(case):
+    """A build, a move or a list on the one buffer: all of them are lists of calls here."""
+    lent, expect = case["buffers"]["buffer"], case["expect"]
+    if case["op"] == "object_calls":
+        calls, answers = case["calls"], expect["answer"]
+    else:
+        calls = [dict(case, call=case["op"][len("object_"):])]
+        answers = [[expect["answer"], expect["buffers"]["buffer"]]]
+    parts, before = [], lent
+    for answer, after in answers:
+        parts.append("%s / %s" % (refused(answer) or "placed", "." if after == before else bytes_of(after)))
+        before = after
+    return "object_calls %s %s = %s" % (bytes_of(lent), " ".join(object_call(c) for c in calls), " ; ".join(parts))
+
+
 def file_case(case):
     """A file that is written: of the lent buffers before only the lengths are kept, since nothing depends on their bytes."""
     lent = {key: bytes.fromhex(text) for key, text in case["buffers"].items()}
@@ -229,15 +258,14 @@ def salvage_case(case, answer, lent, after):
 
 
 # Operations that came with a request: they are kept in the text of that request alone.
-OWN = {"salvage": "12", "write_module": "08", "find_line": "07", "table": "06",
-       "object": "05", "object_build": "05", "object_move": "05", "object_calls": "05"}
+OWN = {"salvage": "12", "write_module": "08", "find_line": "07", "table": "06"}
 
 
 READ = {
     "open": opened, "section": section, "symbol": symbol, "walk": walk, "module": module, "loader_symbol": loader_symbol,
     "csect": lambda c: words(c, "length", "align_log", "type", "smclas"),
     "import_id": lambda strings: " ".join(name(s) for s in strings),
-    "list": lambda text: text.replace("\n", "|"),
+    "list": lambda text: text.replace("\n", "|"), "object": object_read,
 }
 
 
@@ -260,6 +288,8 @@ def whole_line(case):
         return table_case(case)
     if case["op"] in ("salvage", "write_module"):
         return file_case(case)
+    if case["op"].startswith("object_"):
+        return object_case(case)
     answer = case["expect"]["answer"]
     asked = "%s %x" % (case["op"], case["index"]) if "index" in case else case["op"]
     return "%s = %s" % (asked, refused(answer) or READ[case["op"]](answer))
@@ -337,9 +367,7 @@ def is_within_old_limits(case):
 
 def stands(case):
     """Whether no request that came after the case can change its answer. Request 1: names of debug classes. Request 9: types
-    that have a visibility. Request 10: sheets and limits. Operations on object files, request 5, are not in the library yet."""
-    if case["op"].startswith("object"):
-        return False
+    that have a visibility. Request 10: sheets and limits."""
     data = file_of(case)
     bits, table = symbol_table(data)
     entries = entries_of(case, table)

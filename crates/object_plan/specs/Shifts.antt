@@ -6,8 +6,8 @@ use lib.IntN.{pos, _-ℤ_}
 use Rattle.book.specs.Machine.{Shifts}
 
 -- the shift of each number: the first list's address minus the second's, exact
-unfoldable pub shiftsOf : List ℕ → List ℕ → Shifts
-shiftsOf to from k = pos (getD to k 0) -ℤ pos (getD from k 0)
+unfoldable pub addressShifts : List ℕ → List ℕ → Shifts
+addressShifts to from k = pos (getD to k 0) -ℤ pos (getD from k 0)
 
 -- how many numbers there are: 0, which stands for no section, and those of the sections
 abbrev pub numbers : ℕ

@@ -27,6 +27,13 @@ ghost use Rattle.relocation_table.specs.Rows.{relocations};
 ghost use Rattle.import_table.specs.Imports.{imports};
 ghost use Rattle.line_lookup.specs.Lookup.{countReport, lineReport};
 ghost use Rattle.line_table.specs.Table.{lineTableCheck, linesAfter};
+ghost use Rattle.object.specs.Check.{objectReport};
+ghost use Rattle.object_history.specs.Call.{callCheck as objectCallCheck, effect as objectEffect};
+ghost use Rattle.object_history.specs.Book.{bookImages as objectImages, bookAfter as objectBook};
+ghost use Rattle.object_plan.specs.Object.{objectOf};
+ghost use Rattle.object_table.specs.Table.{sectionRowsCheck, sectionRowsAfter, entryRowsCheck, entryRowsAfter};
+ghost use Rattle.object_replay.specs.Script.{callsOf as objectCallsOf};
+ghost use Rattle.object_replay.specs.Answer.{replayAnswer as objectReplayAnswer, reportOfReplay as reportOfObjectReplay};
 ghost use Rattle.salvage.specs.Answer.{countAnswer, salvageAnswer, copyAfter, reportAfter, reportOfCount};
 ghost use Rattle.address_book.specs.Book.{key};
 ghost use Rattle.address_book.specs.Call.{Call, checkOf, numberOf, memoryIn, reportOfNumber};
@@ -50,6 +57,8 @@ use line_lookup::LineCountReport;
 use line_lookup::LineReport;
 use loadable::ModuleReport;
 use lookup::LoaderSymbolReport;
+use object::ObjectReport;
+use object_replay::ObjectReplayReport;
 use offset::RangeReport;
 use refusal::Head;
 use replay::ReplayReport;
@@ -419,6 +428,71 @@ pub extern "C" fn xcoff_line_table(file: &[u8], section: u64, rows: &mut [u64]) 
         file,
         line_table::line_table(file, SectionNumber(section), rows),
     )
+}
+
+// What a host needs of an object file: how many addresses a plan has, how many entries there are, and how long the buffer is.
+#[no_mangle]
+pub extern "C" fn xcoff_object(file: &[u8]) -> ObjectReport
+    ensures { λ r. ⌜ r ≡ objectReport (now (file .entry)) ⌝ }
+{
+    object::report_object(file, object::object_of(file))
+}
+
+// Lists its sections: a row of 5 numbers for each.
+#[no_mangle]
+pub extern "C" fn xcoff_object_sections(file: &[u8], rows: &mut [u64]) -> Head
+    ensures answer { λ r. ⌜ r ≡ reportHead (now (file .entry)) (sectionRowsCheck (now (file .entry)) (length (now (rows .entry)))) ⌝ }
+    ensures rows { λ _. ⌜ now (rows .exit) ≡ sectionRowsAfter (now (file .entry)) (now (rows .entry)) ⌝ }
+{
+    offset::report_head(file, object_table::object_sections(file, rows))
+}
+
+// Lists the entries of text or data section `section`: a row of 6 numbers for each.
+#[no_mangle]
+pub extern "C" fn xcoff_object_entries(file: &[u8], section: u64, rows: &mut [u64]) -> Head
+    ensures answer { λ r. ⌜ r ≡ reportHead (now (file .entry)) (entryRowsCheck (now (file .entry)) (record { 0 = section }) (length (now (rows .entry)))) ⌝ }
+    ensures rows { λ _. ⌜ now (rows .exit) ≡ entryRowsAfter (now (file .entry)) (record { 0 = section }) (now (rows .entry)) ⌝ }
+{
+    offset::report_head(
+        file,
+        object_table::object_entries(file, SectionNumber(section), rows),
+    )
+}
+
+// Builds an object file for a plan, one address for each section.
+#[no_mangle]
+pub extern "C" fn xcoff_build_object(file: &[u8], plan: &[u64], buffer: &mut [u8]) -> Head
+    ensures answer { λ r. ⌜ r ≡ reportHead (now (file .entry)) (objectCallCheck (objectOf (now (file .entry))) (length (now (buffer .entry))) (now (buffer .entry)) (build (now (plan .entry)))) ⌝ }
+    ensures image { λ _. ⌜ now (buffer .exit) ≡ objectEffect (objectOf (now (file .entry))) (build (now (plan .entry))) (now (buffer .entry)) ⌝ }
+{
+    offset::report_head(file, object_image::build_object(file, plan, buffer))
+}
+
+// Moves it in place, from one plan to another.
+#[no_mangle]
+pub extern "C" fn xcoff_move_object(
+    file: &[u8],
+    from: &[u64],
+    to: &[u64],
+    buffer: &mut [u8],
+) -> Head
+    ensures answer { λ r. ⌜ r ≡ reportHead (now (file .entry)) (objectCallCheck (objectOf (now (file .entry))) (length (now (buffer .entry))) (now (buffer .entry)) (move (now (from .entry)) (now (to .entry)))) ⌝ }
+    ensures image { λ _. ⌜ now (buffer .exit) ≡ objectEffect (objectOf (now (file .entry))) (move (now (from .entry)) (now (to .entry))) (now (buffer .entry)) ⌝ }
+{
+    offset::report_head(file, object_image::move_object(file, from, to, buffer))
+}
+
+// Runs a list of builds and moves of an object file: 0 and a plan, or another number and two plans, a plan being how many addresses it has, and those.
+#[no_mangle]
+pub extern "C" fn xcoff_replay_object(
+    file: &[u8],
+    script: &[u64],
+    buffer: &mut [u8],
+) -> ObjectReplayReport
+    ensures answer { λ r. ⌜ r ≡ reportOfObjectReplay (now (file .entry)) (objectReplayAnswer (objectOf (now (file .entry))) (objectCallsOf (now (script .entry))) (now (buffer .entry))) ⌝ }
+    ensures image { λ _. ⌜ now (buffer .exit) ≡ objectImages (objectOf (now (file .entry))) (objectBook (objectOf (now (file .entry))) (objectCallsOf (now (script .entry))) (now (buffer .entry))) ⌝ }
+{
+    object_replay::report_object_replay(file, object_replay::replay_object(file, script, buffer))
 }
 
 // How many changes salvaging the symbol table of a file makes.

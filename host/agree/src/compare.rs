@@ -1,7 +1,7 @@
 //! One operation, run by both implementations.
 
 use crate::{
-    address_table, images, later, lines, places, read, records, rewrites, salvages,
+    address_table, images, lines, objects, places, read, records, rewrites, salvages,
 };
 use reference::generate::Op;
 use reference::Refusal;
@@ -31,14 +31,11 @@ pub struct Agreed {
 pub type Agreement = Result<Agreed, Difference>;
 
 /// Compares everything that the operation gives, the buffers afterwards included, and looks at what stands where its
-/// refusals point, if the library has them.
+/// refusals point.
 pub fn compare(file: &[u8], op: &Op) -> Agreement {
     let agreed = run_both(file, op)?;
-    // What the library does not have yet it cannot show either.
-    if !later::is_later(op) {
-        for refusal in &agreed.refusals {
-            places::read(file, refusal)?;
-        }
+    for refusal in &agreed.refusals {
+        places::read(file, op, refusal)?;
     }
     Ok(agreed)
 }
@@ -70,7 +67,10 @@ fn run_both(file: &[u8], op: &Op) -> Agreement {
         Op::Table(calls) => address_table::calls(file, calls),
         Op::WriteModule { plan, out } => rewrites::write(file, plan, out),
         Op::Salvage { copy, report } => salvages::salvage(file, copy, report),
-        _ if later::is_later(op) => later::alone(file, op),
+        Op::Object => objects::read(file),
+        Op::ObjectBuild { .. } | Op::ObjectMove { .. } | Op::ObjectCalls { .. } => {
+            objects::calls(file, op)
+        }
         _ => read::read(file, op),
     }
 }

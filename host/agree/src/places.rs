@@ -2,19 +2,23 @@
 //! the thing named has, and finds every field in them. Whatever the file is, it reads.
 
 use crate::compare::{same, Difference};
+use reference::generate::Op;
 use reference::reached::bits_of;
 use reference::Refusal;
-use xcoff::{places, What};
+use xcoff::{object_places, places, What};
 
-pub fn read(file: &[u8], refusal: &Refusal) -> Result<(), Difference> {
-    let found = places(
-        file,
-        &xcoff::Refusal {
-            number: refusal.number,
-            item: refusal.item,
-            offset: refusal.offset,
-        },
-    );
+pub fn read(file: &[u8], op: &Op, refusal: &Refusal) -> Result<(), Difference> {
+    let ours = xcoff::Refusal {
+        number: refusal.number,
+        item: refusal.item,
+        offset: refusal.offset,
+    };
+    let found = match op {
+        Op::Object | Op::ObjectBuild { .. } | Op::ObjectMove { .. } | Op::ObjectCalls { .. } => {
+            object_places(file, &ours)
+        }
+        _ => places(file, &ours),
+    };
     let shown = found.first().map(|place| place.what);
     same(
         "whether something is shown",
@@ -40,7 +44,7 @@ fn has_place(refusal: &Refusal) -> bool {
     match (refusal.number, refusal.item) {
         (3, item) => (item == 2 || item == 3) && refusal.offset != 0,
         (5, item) => item != 0,
-        (4 | 6 | 7 | 9..=12 | 14..=18 | 30, _) => true,
+        (4 | 6 | 7 | 9..=12 | 14..=18 | 25 | 30, _) => true,
         _ => false,
     }
 }
@@ -55,5 +59,6 @@ fn length_of(file: &[u8], what: What) -> usize {
         What::LoaderSection(_, size) => by(32, 56).min(size as usize),
         What::LoaderSymbol(_) => 24,
         What::Relocation(_) => by(12, 16),
+        What::ObjectEntry(_) => by(10, 14),
     }
 }

@@ -53,7 +53,7 @@ pub fn order_module(format: Format, entries: u64, data: u64, order: Order, after
 }
 
 /// A fixed order that looks random.
-fn shuffle(entries: &mut [Entry]) {
+pub fn shuffle<T>(entries: &mut [T]) {
     let mut x = 88_172_645_463_325_252_u64;
     for i in (1..entries.len()).rev() {
         x ^= x << 13;

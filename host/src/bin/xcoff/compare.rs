@@ -11,7 +11,7 @@ use std::ops::Range;
 use xcoff::{Image, Relocation};
 
 /// Fields that a report shows before it only counts.
-const SHOWN: usize = 8;
+pub const SHOWN: usize = 8;
 
 pub const IMAGES: [Image; 2] = [Image::Text, Image::Data];
 
@@ -132,7 +132,7 @@ fn number_in(pair: &Pair, f: &Relocation) -> u64 {
     bytes.fold(0, |number, &byte| number << 8 | u64::from(byte))
 }
 
-fn hex_of(bytes: &[u8]) -> String {
+pub fn hex_of(bytes: &[u8]) -> String {
     bytes.iter().map(|byte| format!("{byte:02x}")).collect()
 }
 
@@ -149,7 +149,7 @@ fn difference(found: &[u8], expected: &[u8]) -> Option<Difference> {
 }
 
 /// Where two images of the same length differ: bytes that follow each other as one.
-fn runs(found: &[u8], expected: &[u8]) -> Vec<Range<usize>> {
+pub fn runs(found: &[u8], expected: &[u8]) -> Vec<Range<usize>> {
     let mut runs: Vec<Range<usize>> = Vec::new();
     for at in (0..found.len()).filter(|&at| found[at] != expected[at]) {
         match runs.last_mut() {
@@ -158,6 +158,16 @@ fn runs(found: &[u8], expected: &[u8]) -> Vec<Range<usize>> {
         }
     }
     runs
+}
+
+/// The first places that differ, each with how many bytes it has and where it is.
+pub fn places_words(runs: &[Range<usize>], place: impl Fn(usize) -> String) -> String {
+    let words = |run: &Range<usize>| format!("{} at {}", run.len(), place(run.start));
+    let shown: Vec<String> = runs.iter().take(SHOWN).map(words).collect();
+    match runs.len() {
+        n if n > SHOWN => format!("{} and at {} more places", shown.join(", "), n - SHOWN),
+        _ => shown.join(", "),
+    }
 }
 
 impl<'a> Beside<'a> {
@@ -269,20 +279,14 @@ impl<'a> Beside<'a> {
 
     /// The first places of an image, each with its address, where it was found and how many bytes it has.
     fn places(&self, image: Image, runs: &[Range<usize>]) -> String {
-        let place = |run: &Range<usize>| {
+        places_words(runs, |start| {
             format!(
-                "{} at {:0digits$x} ({})",
-                run.len(),
-                self.sheet.address(image) + run.start as u64,
-                self.found.at(image, run.start),
+                "{:0digits$x} ({})",
+                self.sheet.address(image) + start as u64,
+                self.found.at(image, start),
                 digits = self.file.digits()
             )
-        };
-        let shown: Vec<String> = runs.iter().take(SHOWN).map(place).collect();
-        match runs.len() {
-            n if n > SHOWN => format!("{} and at {} more places", shown.join(", "), n - SHOWN),
-            _ => shown.join(", "),
-        }
+        })
     }
 
     /// How the images differ from the plan's, a line for each thing to say; none where they do not.

@@ -25,6 +25,53 @@ pub fn read(path: &Path, most: u64) -> Result<Vec<u8>, Problem> {
     read().map_err(|e| Problem::system(format!("cannot read {}", escape::argument(path)), &e))
 }
 
+/// Room for so many bytes, none of them there yet; none where the system has not so much.
+pub fn room(bytes: u64) -> Option<Vec<u8>> {
+    let mut room = Vec::new();
+    room.try_reserve_exact(usize::try_from(bytes).ok()?).ok()?;
+    Some(room)
+}
+
+/// The first bytes of a file, at most so many, read into room that is taken once: of a large image there is no second copy
+/// while it is read.
+pub fn read_roomy(path: &Path, most: u64) -> Result<Vec<u8>, Problem> {
+    let doing = || format!("cannot read {}", escape::argument(path));
+    let read = || {
+        let file = File::open(path)?;
+        let length = file.metadata()?.len().min(most);
+        // One byte more, by which the end is seen.
+        let mut bytes = room(length + 1).ok_or(ErrorKind::OutOfMemory)?;
+        file.take(most).read_to_end(&mut bytes)?;
+        Ok(bytes)
+    };
+    read().map_err(|e: io::Error| Problem::system(doing(), &e))
+}
+
+/// Whether a file holds exactly these bytes.
+pub fn holds(path: &Path, bytes: &[u8]) -> Result<bool, Problem> {
+    let compare = || {
+        let mut file = File::open(path)?;
+        let mut part = vec![0; 1 << 16];
+        let mut rest = bytes;
+        loop {
+            let read = match file.read(&mut part) {
+                Err(e) if e.kind() == ErrorKind::Interrupted => continue,
+                read => read?,
+            };
+            if read == 0 {
+                return Ok(rest.is_empty());
+            }
+            match rest.strip_prefix(&part[..read]) {
+                Some(more) => rest = more,
+                None => return Ok(false),
+            }
+        }
+    };
+    compare().map_err(|e: io::Error| {
+        Problem::system(format!("cannot read {}", escape::argument(path)), &e)
+    })
+}
+
 /// How long an image file is, which is not known where it was not read to its end.
 pub fn length(image: &[u8]) -> String {
     match image.len() as u64 {

@@ -188,11 +188,11 @@ impl<'p> RecordText<'p> {
             Err(refusal) if refusal.number == 22 => {
                 let (own, _) = file.build_sheet(sheet)?;
                 let own = file.with_sheet(sheet, own.records(file, sheet))?;
-                Err(Problem::Refused {
-                    about: format!("{} for {}", self.name(), escape::argument(sheet.path)),
+                Err(Problem::refused_and_shown(
+                    format!("{} for {}", self.name(), escape::argument(sheet.path)),
                     refusal,
-                    shown: self.shown(refusal.item as usize, &own),
-                })
+                    self.shown(refusal.item as usize, &own),
+                ))
             }
             answer => {
                 file.with_sheet(sheet, answer)?;

@@ -104,10 +104,8 @@ impl<'p> Loaded<'p> {
 impl<'p> Sheet<'p> {
     pub fn read(path: &'p Path) -> Result<Sheet<'p>, Problem> {
         let bytes = files::read(path, files::SHEET)?;
-        let plan = xcoff::read_sheet(&bytes).map_err(|refusal| Problem::Refused {
-            about: escape::argument(path),
-            refusal,
-            shown: kinds::sheet_lines(&bytes),
+        let plan = xcoff::read_sheet(&bytes).map_err(|refusal| {
+            Problem::refused_and_shown(escape::argument(path), refusal, kinds::sheet_lines(&bytes))
         })?;
         Ok(Sheet { path, plan })
     }

@@ -1,4 +1,4 @@
-//! `xcoff`: lists XCOFF files, builds and moves the images of modules, writes and reads them as S-records.
+//! `xcoff`: lists XCOFF files, builds and moves the images of modules and of object files, writes and reads them as S-records.
 //!
 //! Every file, sheet, plan, image and record text goes to the proved library as it is; nothing is judged here. The one
 //! check of this command's own is that images are for the plan that they are moved from, or that their records are for.
@@ -25,9 +25,13 @@ mod load;
 mod lock;
 mod map;
 mod near;
+mod object;
 mod output;
 mod pages;
 mod picture;
+mod place;
+mod placed;
+mod placed_compare;
 mod plans;
 mod problem;
 mod records;

@@ -65,11 +65,29 @@ pub fn refused_about<T>(
     file: &[u8],
     answer: Result<T, Refusal>,
 ) -> Result<T, Problem> {
-    answer.map_err(|refusal| Problem::Refused {
-        about: about(),
+    answer.map_err(|refusal| Problem::refused_and_shown(about(), refusal, shown_of(file, &refusal)))
+}
+
+/// An answer of an operation on an object file.
+pub fn refused_object<T>(
+    path: &Path,
+    file: &[u8],
+    answer: Result<T, Refusal>,
+) -> Result<T, Problem> {
+    answer.map_err(|refusal| object_problem(escape::argument(path), file, refusal, Vec::new()))
+}
+
+/// A refusal by an operation on an object file, with more lines to show.
+pub fn object_problem(about: String, file: &[u8], refusal: Refusal, more: Vec<String>) -> Problem {
+    let mut shown = shown::object_lines(file, &refusal);
+    shown.extend(values::object_lines(file, &refusal));
+    shown.extend(more);
+    Problem::Refused {
+        about,
         refusal,
-        shown: shown_of(file, &refusal),
-    })
+        meaning: refusal.object_meaning(),
+        shown,
+    }
 }
 
 /// What stands where a refusal points, and the values that a rule with several alternatives speaks of.

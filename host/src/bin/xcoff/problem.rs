@@ -17,6 +17,8 @@ pub enum Problem {
     Refused {
         about: String,
         refusal: Refusal,
+        /// Of the operation that refused: an object file's plan has other items than a module's.
+        meaning: String,
         /// Lines that show what is refused.
         shown: Vec<String>,
     },
@@ -57,7 +59,12 @@ impl Problem {
         let mut line = String::new();
         match self {
             Problem::Usage { .. } | Problem::Closed | Problem::Told(_) => return None,
-            Problem::Refused { about, refusal, .. } => {
+            Problem::Refused {
+                about,
+                refusal,
+                meaning,
+                ..
+            } => {
                 let (number, item, offset) = (refusal.number, refusal.item, refusal.offset);
                 line.push_str("{\"table\":\"refusal\",\"about\":");
                 push_json_text(&mut line, about);
@@ -66,7 +73,7 @@ impl Problem {
                 line.push_str(",\"rule\":");
                 push_json_text(&mut line, refusal.name());
                 line.push_str(",\"meaning\":");
-                push_json_text(&mut line, &refusal.meaning());
+                push_json_text(&mut line, meaning);
             }
             _ => line.push_str("{\"table\":\"problem\""),
         }
@@ -84,10 +91,15 @@ impl Problem {
     }
 
     pub fn refused(about: String, refusal: Refusal) -> Problem {
+        Problem::refused_and_shown(about, refusal, Vec::new())
+    }
+
+    pub fn refused_and_shown(about: String, refusal: Refusal, shown: Vec<String>) -> Problem {
         Problem::Refused {
             about,
             refusal,
-            shown: Vec::new(),
+            meaning: refusal.meaning(),
+            shown,
         }
     }
 
@@ -127,9 +139,12 @@ impl fmt::Display for Problem {
             Problem::Refused {
                 about,
                 refusal,
+                meaning,
                 shown,
             } => {
-                writeln!(f, "xcoff: {about}: {refusal}")?;
+                let numbers = format!("{} {} {}", refusal.number, refusal.item, refusal.offset);
+                let name = refusal.name();
+                writeln!(f, "xcoff: {about}: refused {numbers}: {name}, {meaning}")?;
                 write_lines(f, shown)
             }
             Problem::Unequal(lines) => write_lines(f, lines),

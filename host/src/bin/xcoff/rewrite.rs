@@ -34,11 +34,11 @@ pub fn rewrite(args: &Arguments) -> Result<(), Problem> {
 /// SHARED is about the file alone, and shown with what shares bytes; every other refusal is about the sheet for it.
 fn judged<T>(file: &Loaded, sheet: &Sheet, answer: Result<T, Refusal>) -> Result<T, Problem> {
     match answer {
-        Err(refusal) if refusal.number == 29 => Err(Problem::Refused {
-            about: escape::argument(file.path),
+        Err(refusal) if refusal.number == 29 => Err(Problem::refused_and_shown(
+            escape::argument(file.path),
             refusal,
-            shown: shown::shared(&xcoff::shared_in_module(&file.bytes)),
-        }),
+            shown::shared(&xcoff::shared_in_module(&file.bytes)),
+        )),
         answer => file.with_sheet(sheet, answer),
     }
 }

@@ -58,11 +58,11 @@ pub fn salvage(args: &Arguments) -> Result<(), Problem> {
 /// SHARED, which points nowhere, is shown with what shares bytes.
 fn judged<T>(path: &Path, file: &[u8], answer: Result<T, Refusal>) -> Result<T, Problem> {
     match answer {
-        Err(refusal) if refusal.number == 29 => Err(Problem::Refused {
-            about: escape::argument(path),
+        Err(refusal) if refusal.number == 29 => Err(Problem::refused_and_shown(
+            escape::argument(path),
             refusal,
-            shown: shown::shared(&xcoff::shared_with_symbols(file)),
-        }),
+            shown::shared(&xcoff::shared_with_symbols(file)),
+        )),
         answer => refused_in(path, file, answer),
     }
 }

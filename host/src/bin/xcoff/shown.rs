@@ -2,7 +2,7 @@
 //! speaks of.
 
 use crate::listing::{number, word, Cell, Listing};
-use xcoff::{places, FieldValue, FileRange, Place, Refusal};
+use xcoff::{object_places, places, FieldValue, FileRange, Place, Refusal};
 
 /// Bytes in a line of the dump.
 const LINE: usize = 16;
@@ -10,6 +10,12 @@ const LINE: usize = 16;
 /// None where the refusal names nothing in the file.
 pub fn lines(file: &[u8], refusal: &Refusal) -> Vec<String> {
     let places = places(file, refusal);
+    places.iter().flat_map(place_lines).collect()
+}
+
+/// The same of a refusal by an operation on an object file.
+pub fn object_lines(file: &[u8], refusal: &Refusal) -> Vec<String> {
+    let places = object_places(file, refusal);
     places.iter().flat_map(place_lines).collect()
 }
 

@@ -3,7 +3,8 @@
 use crate::args::Arguments;
 use crate::problem::Problem;
 use crate::{
-    check, dump, images, line, lined, lists, map, plans, records, rewrite, salvage, symbols, table,
+    check, dump, images, line, lined, lists, map, object, place, plans, records, rewrite, salvage,
+    symbols, table,
 };
 
 pub struct Command {
@@ -75,7 +76,7 @@ const fn lister(
     }
 }
 
-pub static COMMANDS: [Command; 19] = [
+pub static COMMANDS: [Command; 22] = [
     lister(
         "headers",
         "the file header and the sections",
@@ -125,6 +126,16 @@ pub static COMMANDS: [Command; 19] = [
         usage: "FILE... [--section N] [--json]",
         options: &[flag("--section", &["N"]), flag("--json", &[])],
         ..lister("lines", "the line number tables", LINES, lined::lines)
+    },
+    Command {
+        usage: "FILE... [--section N] [--json]",
+        options: &[flag("--section", &["N"]), flag("--json", &[])],
+        ..lister(
+            "object",
+            "the relocation tables of an object file",
+            OBJECT,
+            object::object,
+        )
     },
     Command {
         name: "line",
@@ -296,6 +307,43 @@ pub static COMMANDS: [Command; 19] = [
         run: map::map,
     },
     Command {
+        name: "place",
+        usage: "FILE --at N=HEX... [--recorded] -o IMAGE [--force] [--no-wait] [--json]",
+        operands: &["FILE"],
+        optional: 0,
+        options: &[
+            repeated("--at", &["N=HEX"]),
+            flag("--recorded", &[]),
+            required("-o", &["IMAGE"]),
+            FORCE,
+            NO_WAIT,
+            flag("--json", &[]),
+        ],
+        summary: "places the sections of an object file",
+        help: PLACE,
+        run: place::place,
+    },
+    Command {
+        name: "place-move",
+        usage: "FILE --from N=HEX... --to N=HEX... IMAGE [-o IMAGE2] [--recorded] [--keep-changes | --unchecked] [--force] [--no-wait] [--json]",
+        operands: &["FILE", "IMAGE"],
+        optional: 0,
+        options: &[
+            repeated("--from", &["N=HEX"]),
+            repeated("--to", &["N=HEX"]),
+            flag("--recorded", &[]),
+            flag("-o", &["IMAGE2"]),
+            flag("--keep-changes", &[]),
+            flag("--unchecked", &[]),
+            FORCE,
+            NO_WAIT,
+            flag("--json", &[]),
+        ],
+        summary: "moves a placed object file to other addresses",
+        help: PLACE_MOVE,
+        run: place::place_move,
+    },
+    Command {
         name: "rewrite",
         usage: "FILE SHEET -o FILE2 [--force] [--no-wait]",
         operands: &["FILE", "SHEET"],
@@ -375,7 +423,7 @@ usage: xcoff COMMAND ARGUMENT...
 
 Reads XCOFF modules, builds their text and data images for the addresses of one
 card, moves images when a memory board is swapped, and writes and reads them as
-S-records for a PROM programmer.
+S-records for a PROM programmer. Object files are placed without linking them.
 
 ";
 
@@ -704,6 +752,69 @@ some bytes, with the fields by what they follow.
 --force        replaces an XCOFF file or a sheet too
 --no-wait      ends, with status 3, where another xcoff writes in the folder
 --json         one object a line, without the drawing
+";
+
+const OBJECT: &str = "\
+Judges a file as an object file, down to its last relocation entry, and lists what
+'xcoff place' works on: how many sections, relocation entries and bytes of image there
+are; every section with its recorded address, its size, its offset in the image, where
+its relocation table lies in the file, how many entries that has and the number of the
+first ('-' of sections that are neither text nor data); then the entries by section.
+Entries are numbered on from table to table. Of each: the address of its field, the
+field's offset in the image and its bits, 26 of a branch, the size and type as the file
+has them (POS, RL and RLA add, NEG subtracts, BA and RBA branch to an address, BR and
+RBR by a distance, REF changes nothing), the index of its symbol, the section 'with'
+which that moves ('-' for none), and its name. Any file that opens is taken.
+
+  xcoff object diag.o
+
+--section N  only the entries of text or data section N
+--json       one object a line; 'type' is a number there
+";
+
+const PLACE: &str = "\
+Places an object file without linking it: writes its text and data sections, end to end
+in the order of the file, with their relocation entries applied for the addresses given.
+'xcoff object FILE' lists the sections and their offsets in the image; bss has an
+address and no bytes. Every text, data and bss section needs an address: those without
+one are listed, nothing is written and the exit status is 1. A branch that would leave
+its range is refused (25 RANGE), with its entry, its section and its address. Symbols in
+no such section, as undefined ones, do not move. Sections that overlap are warned of.
+
+  xcoff place diag.o --at 1=10000 --at 2=80000 --at 3=80400 -o card7.image
+
+Sections may share bytes and tables of the file: where more than 64 MiB of memory are
+needed, that is said before they are taken.
+
+--at N=HEX  the address of section N, with or without 0x before it
+--recorded  sections that are not given are at the address that the file records
+-o IMAGE    the file to write; an old one is replaced whole
+--force     replaces an XCOFF file or a sheet too
+--no-wait   ends, with status 3, where another xcoff writes in the folder
+--json      prints one object a line: the image, then each section that is placed
+";
+
+const PLACE_MOVE: &str = "\
+Moves the image that 'xcoff place' wrote from some addresses of its sections to others,
+in place or, with -o, into another file. --from must have the addresses that it is for:
+moving an image a second time makes a wrong one. So it is compared with that of --from
+first, byte for byte; where it differs the command says how and whether it is that of
+--to, changes nothing and exits with 1. Another xcoff that writes in the folder is
+waited for.
+
+  xcoff place-move diag.o --from 1=10000 --from 2=80000 --from 3=80400 \\
+                   --to 1=40000 --to 2=c0000 --to 3=c0400 card7.image -o card9.image
+
+--from N=HEX    the address of section N that the image is for
+--to N=HEX      its address after the move
+--recorded      sections that are not given are at the address that the file records
+-o IMAGE2       the file to write; without it IMAGE is replaced
+--keep-changes  bytes outside the relocated fields may differ, as where the card's
+                program wrote; they are kept, with a warning that says where
+--unchecked     moves the image whatever it holds
+--force         replaces an XCOFF file or a sheet too
+--no-wait       ends, with status 3, where another xcoff writes in the folder
+--json          prints one object a line
 ";
 
 const REWRITE: &str = "\

@@ -9,7 +9,7 @@ use xcoff::{header_fields, Kind, Refusal, Section};
 
 /// None where a refusal has said everything.
 pub fn lines(file: &[u8], refusal: &Refusal) -> Vec<String> {
-    let lines = match (refusal.number, refusal.item) {
+    indented(match (refusal.number, refusal.item) {
         (2, _) => vec![kinds::looks_like(file, files::FILE)],
         (1, _) => with_length(file, &["f_nscns", "f_opthdr"]),
         (3, 1) => header(file, &["f_nscns"]),
@@ -22,8 +22,41 @@ pub fn lines(file: &[u8], refusal: &Refusal) -> Vec<String> {
         (13, _) => both(file, &["o_snentry", "o_sntoc", "o_sntext", "o_sndata"]),
         (3, 4) => sections(file),
         _ => Vec::new(),
-    };
+    })
+}
+
+/// The same of a refusal by an operation on an object file, whose text and data sections must have raw data, and whose
+/// relocation table may have its count in an overflow header.
+pub fn object_lines(file: &[u8], refusal: &Refusal) -> Vec<String> {
+    match (refusal.number, refusal.item) {
+        (13, _) => indented(sections(file)),
+        (5, n) if n != 0 => indented(overflow_headers(file, n)),
+        _ => lines(file, refusal),
+    }
+}
+
+fn indented(lines: Vec<String>) -> Vec<String> {
     lines.iter().map(|line| format!("  {line}")).collect()
+}
+
+/// Of a section with a count that stands for one in an overflow header: which headers have one for it.
+fn overflow_headers(file: &[u8], n: u64) -> Vec<String> {
+    let all = all_sections(file);
+    let replaced = all.iter().any(|(m, s)| *m == n && s.nreloc == 65_535);
+    let format = xcoff::open(file).map(|opened| opened.format);
+    if !replaced || format != Ok(xcoff::Format::Xcoff32) {
+        return Vec::new();
+    }
+    let own = |s: &Section| s.kind == Kind::Ovrflo && s.nreloc == n;
+    let found: Vec<String> = all
+        .iter()
+        .filter(|(_, s)| own(s))
+        .map(|(m, s)| format!("section {m} is its overflow header: {} entries", s.paddr))
+        .collect();
+    match found.is_empty() {
+        true => vec!["no section is its overflow header".to_string()],
+        false => found,
+    }
 }
 
 /// Fields of the auxiliary header that repeat what section headers say.

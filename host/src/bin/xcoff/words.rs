@@ -104,3 +104,19 @@ pub fn mapping_word(class: u64) -> Option<&'static str> {
         _ => return None,
     })
 }
+
+/// Types of relocation entries in sections' own tables, without their `R_`.
+pub fn entry_word(rtype: u64) -> Option<&'static str> {
+    Some(match rtype {
+        0x00 => "POS",
+        0x01 => "NEG",
+        0x08 => "BA",
+        0x0A => "BR",
+        0x0C => "RL",
+        0x0D => "RLA",
+        0x0F => "REF",
+        0x18 => "RBA",
+        0x1A => "RBR",
+        _ => return None,
+    })
+}

@@ -1,0 +1,4 @@
+-- What the contracts of `branch_range` cite.
+pub mod Range
+pub mod Cells
+pub mod Order

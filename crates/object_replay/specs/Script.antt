@@ -1,0 +1,38 @@
+-- A list of calls of an object file as numbers; a plan is how many addresses it has, and those.
+use mathlib.Core.Bool.{cond}
+use mathlib.Core.List.{List, _∷_}
+use Prim.Native.Nat.{ℕ, _+_, _-_}
+use lib.ListN.{length, getD, take, drop}
+use lib.Dec.{leb, ltb}
+use Rattle.script.specs.Script.{Reader}
+use Rattle.script.specs.Script as script
+use Rattle.object_history.specs.Object.{Plan}
+use Rattle.object_history.specs.Call.{Call}
+
+-- where the plan at a place ends, 0 where it is cut short
+unfoldable pub planEnd : List ℕ → ℕ → ℕ
+planEnd s at = cond (ltb at (length s)) (cond (leb (getD s at 0) (length s - (at + 1))) (at + 1 + getD s at 0) 0) 0
+
+unfoldable pub planAt : List ℕ → ℕ → Plan
+planAt s at = take (getD s at 0) (drop (at + 1) s)
+
+abbrev pub plans : Reader Plan
+plans = record { end = planEnd; plan = planAt }
+
+abbrev pub callEnd : List ℕ → ℕ → ℕ
+callEnd s at = script.callEnd plans s at
+
+abbrev pub callAt : List ℕ → ℕ → Call
+callAt s at = script.callAt plans s at
+
+-- every list of numbers is a list of calls
+abbrev pub callsOf : List ℕ → List Call
+callsOf s = script.callsOf plans s
+
+-- ---- and back
+
+abbrev pub planNumbers : Plan → List ℕ
+planNumbers p = length p ∷ p
+
+abbrev pub encode : List Call → List ℕ
+encode cs = script.encode planNumbers cs

@@ -1,0 +1,3 @@
+-- Lists of calls as numbers.
+pub mod Script
+pub mod Tally
