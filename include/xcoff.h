@@ -21,7 +21,7 @@
  *
  * Every answer starts with `number`, `item` and `offset`. Number 0: accepted, with item 0 and offset 0. Otherwise the
  * call is refused, the number says why, the item what it is about, the offset where that is in the file (see below), and
- * every other field is 0, but for the counts of xcoff_replay and xcoff_replay_object.
+ * every other field is 0, but for the counts of xcoff_replay, xcoff_table_replay and xcoff_replay_object.
  *
  *   number       why                                                       item
  *    1 SHORT     file or header area ends early                            0
@@ -582,6 +582,28 @@ typedef struct xcoff_table_row {
 /* How many rows a bench has, and these in the order of file id, then name, 7 numbers each: INDEX for the bench, ROOM 0. */
 xcoff_count_answer xcoff_table_count(const uint64_t *table, uint64_t bench);
 xcoff_verdict xcoff_table_rows(const uint64_t *table, uint64_t bench, uint64_t *rows, size_t numbers);
+
+/*
+ * Runs a list of calls on the table, each on the table that the last one left, encoded as numbers. A call begins with its kind, 0
+ * an addition, 1 a removal, 2 a look-up, any other number a fill, and its bench. A fill has nothing more: it is of the module in
+ * `file` and writes `list`. Any other call has a file id, how many bytes its name has, and these, a number each, of which the low
+ * byte counts; an addition then has the address. What is cut short ends the list; a call that is refused changes nothing and does
+ * not end it. From a table of zeros this is the whole history of a table.
+ *
+ * The answer is the last call's own, with the address that a look-up found, and the two counts as xcoff_replay has them. Where no
+ * call was run every field is 0.
+ */
+typedef struct xcoff_table_replay_answer {
+    uint64_t number;
+    uint64_t item;
+    uint64_t offset;
+    uint64_t address;
+    uint64_t calls;
+    uint64_t accepted;
+} xcoff_table_replay_answer;
+
+xcoff_table_replay_answer xcoff_table_replay(const uint8_t *file, size_t length, const uint64_t *script, size_t numbers,
+                                             uint64_t *table, uint64_t *list, size_t places);
 
 /*
  * Object files before linking: any file that opens. Its image is one buffer that takes the text and data sections end to end,

@@ -982,6 +982,31 @@ static size_t rows_of(const uint64_t *table, uint64_t bench, uint64_t *rows)
     return c.count;
 }
 
+/* The same call by a list of one, whose numbers have more than the name's bytes: cut by a number it is not run. */
+static void call_of_list(const uint64_t *before, const uint64_t *after, row_key k, int adds, uint64_t address, xcoff_verdict v)
+{
+    static uint64_t table[XCOFF_TABLE_NUMBERS];
+    size_t n = 4 + k.length + (adds ? 1 : 0), i;
+    uint64_t *script;
+    xcoff_table_replay_answer r;
+    if (k.length > 64)
+        return;
+    script = lend(script_area, 8 * n);
+    script[0] = adds ? 0 : 1;
+    script[1] = k.bench;
+    script[2] = k.file_id;
+    script[3] = k.length;
+    for (i = 0; i < k.length; i++)
+        script[4 + i] = random_number() << 8 | k.name[i];
+    if (adds)
+        script[n - 1] = address;
+    memcpy(table, before, TABLE_BYTES);
+    r = xcoff_table_replay(file, length, script, n - 1, table, NULL, 0);
+    PROMISE(r.number == 0 && r.calls == 0 && r.accepted == 0 && memcmp(table, before, TABLE_BYTES) == 0);
+    r = xcoff_table_replay(file, length, script, n, table, NULL, 0);
+    PROMISE(REFUSED_AS(r, v) && r.calls == 1 && r.accepted == (v.number == 0) && memcmp(table, after, TABLE_BYTES) == 0);
+}
+
 /* One call on the table: what it answers, and what it leaves of both benches' rows. */
 static void table_call(xcoff_module_answer m, uint64_t *table)
 {
@@ -1004,6 +1029,7 @@ static void table_call(xcoff_module_answer m, uint64_t *table)
     PROMISE(v.number == (number != 0 ? number : adds ? (!there && n + others == 512 ? 26 : 0) : there ? 0 : 27));
     if (v.number != 0)
         PROMISE(memcmp(before, table, TABLE_BYTES) == 0);
+    call_of_list(before, table, k, adds, address, v);
     if (number == 8)
         return;
     left = rows_of(table, 3 - k.bench, rows);

@@ -19,6 +19,36 @@ pub struct TableRow {
     pub address: u64,
 }
 
+/// A call of a list that [`AddressTable::replay`] runs.
+#[derive(Clone, Debug, PartialEq, Eq)]
+pub enum TableCall<'a> {
+    /// With the address.
+    Add(RowName<'a>, u64),
+    Remove(RowName<'a>),
+    Find(RowName<'a>),
+    /// Of a bench, for the module and into the list that the calls are run with.
+    Fill(u64),
+}
+
+/// What a row is found by.
+#[derive(Clone, Copy, Debug, PartialEq, Eq)]
+pub struct RowName<'a> {
+    pub bench: u64,
+    pub file_id: u64,
+    pub name: &'a [u8],
+}
+
+/// What [`AddressTable::replay`] answers.
+#[derive(Clone, Copy, Debug, PartialEq, Eq)]
+pub struct TableReplayed {
+    /// Calls run: all that the list has.
+    pub calls: u64,
+    /// Those of them that were accepted.
+    pub accepted: u64,
+    /// The last call's own answer: the address that is found, 0 of every other call and where no call was run.
+    pub last: Result<u64, Refusal>,
+}
+
 impl AddressTable {
     /// Bytes of a table that is kept in a file.
     pub const BYTES: usize = 8 * NUMBERS;
@@ -73,6 +103,39 @@ impl AddressTable {
         accepted(ffi::table_fill(file, &self.0, bench, list))
     }
 
+    /// Runs a list of calls, each on the table that the last one left. Fills are of the module in `file`, and write `list`. A call
+    /// that is refused changes nothing and does not end the list; how many were accepted is in the answer.
+    pub fn replay(&mut self, calls: &[TableCall], file: &[u8], list: &mut [u64]) -> TableReplayed {
+        let mut script = Vec::new();
+        for call in calls {
+            match call {
+                TableCall::Add(row, address) => {
+                    numbers(0, row, &mut script);
+                    script.push(*address);
+                }
+                TableCall::Remove(row) => numbers(1, row, &mut script),
+                TableCall::Find(row) => numbers(2, row, &mut script),
+                TableCall::Fill(bench) => script.extend([3, *bench]),
+            }
+        }
+        self.replay_script(&script, file, list)
+    }
+
+    /// The same of calls as numbers, as `xcoff.h` says them: what is cut short ends the list.
+    pub fn replay_script(
+        &mut self,
+        script: &[u64],
+        file: &[u8],
+        list: &mut [u64],
+    ) -> TableReplayed {
+        let run = ffi::table_replay(file, script, &mut self.0, list);
+        TableReplayed {
+            calls: run.calls,
+            accepted: run.accepted,
+            last: accepted(run.last.head).map(|()| run.last.address),
+        }
+    }
+
     /// The rows of a bench, in the order of file id, then name.
     pub fn rows(&self, bench: u64) -> Result<Vec<TableRow>, Refusal> {
         let count = ffi::table_count(&self.0, bench);
@@ -87,6 +150,12 @@ impl Default for AddressTable {
     fn default() -> AddressTable {
         AddressTable::new()
     }
+}
+
+/// The numbers of a call on one row, but for an address.
+fn numbers(kind: u64, row: &RowName, script: &mut Vec<u64>) {
+    script.extend([kind, row.bench, row.file_id, row.name.len() as u64]);
+    script.extend(row.name.iter().map(|&byte| u64::from(byte)));
 }
 
 fn row(numbers: &[u64]) -> TableRow {

@@ -164,6 +164,14 @@ pub struct Address {
     pub address: u64,
 }
 
+/// The last call's answer has the fields of [`Address`] in their order.
+#[repr(C)]
+pub struct TableReplay {
+    pub last: Address,
+    pub calls: u64,
+    pub accepted: u64,
+}
+
 #[repr(C)]
 pub struct Object {
     pub head: Head,
@@ -334,6 +342,15 @@ extern "C" {
         list: *mut u64,
         places: usize,
     ) -> Head;
+    fn xcoff_table_replay(
+        file: *const u8,
+        length: usize,
+        script: *const u64,
+        numbers: usize,
+        table: *mut Table,
+        list: *mut u64,
+        places: usize,
+    ) -> TableReplay;
     fn xcoff_table_count(table: *const Table, bench: u64) -> Count;
     fn xcoff_table_rows(table: *const Table, bench: u64, rows: *mut u64, numbers: usize) -> Head;
     fn xcoff_write_module(
@@ -672,6 +689,25 @@ pub fn write_module(file: &[u8], at: (u64, u64), list: &[u64], output: &mut [u8]
             list.len(),
             output.as_mut_ptr(),
             output.len(),
+        )
+    }
+}
+
+pub fn table_replay(
+    file: &[u8],
+    script: &[u64],
+    table: &mut Table,
+    list: &mut [u64],
+) -> TableReplay {
+    unsafe {
+        xcoff_table_replay(
+            file.as_ptr(),
+            file.len(),
+            script.as_ptr(),
+            script.len(),
+            table,
+            list.as_mut_ptr(),
+            list.len(),
         )
     }
 }

@@ -25,7 +25,7 @@ mod shared;
 mod source;
 mod tables;
 
-pub use address_table::{AddressTable, TableRow};
+pub use address_table::{AddressTable, RowName, TableCall, TableReplayed, TableRow};
 pub use check::{check_images, move_images_checked, Comparison, NotMoved};
 pub use follows::{followed, PlanAddress};
 pub use header::{header_fields, HeaderFields};

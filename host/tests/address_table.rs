@@ -6,7 +6,7 @@ use std::collections::BTreeMap;
 use std::fs;
 use std::path::PathBuf;
 use std::process::Command;
-use xcoff::{AddressTable, Refusal, TableRow};
+use xcoff::{AddressTable, Refusal, RowName, TableCall, TableReplayed, TableRow};
 
 const INDEX: u64 = 8;
 const FULL: u64 = 26;
@@ -222,6 +222,141 @@ fn answers(seed: u64, noise: bool) -> Vec<String> {
 fn a_bench_is_answered_alike_whatever_the_other_does() {
     for seed in 0..40 {
         assert_eq!(answers(seed, true), answers(seed, false), "seed {seed}");
+    }
+}
+
+// ---- lists of calls by one
+
+fn name(bench: u64, file_id: u64, name: &[u8]) -> RowName<'_> {
+    RowName {
+        bench,
+        file_id,
+        name,
+    }
+}
+
+/// A call by its own function.
+fn alone(
+    table: &mut AddressTable,
+    call: &TableCall,
+    file: &[u8],
+    list: &mut [u64],
+) -> Result<u64, Refusal> {
+    match *call {
+        TableCall::Add(r, address) => table.add(r.bench, r.file_id, r.name, address).map(|()| 0),
+        TableCall::Remove(r) => table.remove(r.bench, r.file_id, r.name).map(|()| 0),
+        TableCall::Find(r) => table.find(r.bench, r.file_id, r.name),
+        TableCall::Fill(bench) => table.fill(bench, file, list).map(|()| 0),
+    }
+}
+
+/// Lists of every kind of call, refused ones among them, from the empty table and from any numbers: each list that begins one
+/// answers and leaves what its calls do one by one.
+#[test]
+fn a_list_by_one_call_is_its_calls_one_by_one() {
+    let file = real("exe-imports-32");
+    let long = [b'x'; 40];
+    let names: [&[u8]; 5] = [b"errno", b"sysvar", b"", &long[..33], &long];
+    for seed in 0..60 {
+        let mut rng = Rng::new(seed);
+        let first = match seed % 3 {
+            0 => AddressTable::from_bytes(&rng.bytes(AddressTable::BYTES)).unwrap(),
+            1 => with_rows(511),
+            _ => AddressTable::new(),
+        };
+        let places = if seed % 4 == 0 { 8 } else { 9 };
+        let (mut table, mut list) = (first.clone(), vec![7; places]);
+        let (mut calls, mut accepted) = (Vec::new(), 0);
+        for n in 0..30u64 {
+            let row = name(rng.below(4), rng.below(3), names[rng.below(5) as usize]);
+            calls.push(match rng.below(5) {
+                0 | 1 => TableCall::Add(row, rng.next()),
+                2 => TableCall::Remove(row),
+                3 => TableCall::Find(row),
+                _ => TableCall::Fill(row.bench),
+            });
+            let last = alone(&mut table, &calls[n as usize], &file, &mut list);
+            accepted += u64::from(last.is_ok());
+            let (mut whole, mut filled) = (first.clone(), vec![7; places]);
+            let told = TableReplayed {
+                calls: n + 1,
+                accepted,
+                last,
+            };
+            assert_eq!(
+                whole.replay(&calls, &file, &mut filled),
+                told,
+                "seed {seed}"
+            );
+            assert_eq!((&whole, &filled), (&table, &list), "seed {seed} call {n}");
+        }
+    }
+}
+
+/// A call that is cut short is not run, and nothing after it; what was run before it stands.
+#[test]
+fn a_list_that_is_cut_short_ends_there() {
+    // An addition, a look-up, a removal, a fill: where each ends.
+    let script = [
+        &[0, 1, 5, 2, b'a'.into(), b'b'.into(), 99][..],
+        &[2, 1, 5, 2, b'a'.into(), b'b'.into()],
+        &[1, 1, 5, 2, b'a'.into(), b'b'.into()],
+        &[3, 2],
+    ]
+    .concat();
+    let ends = [7, 13, 19, 21];
+    let last = [Ok(0), Ok(0), Ok(99), Ok(0), Err(refusal(20, 2))];
+    let file = real("exe-imports-32");
+    for length in 0..=script.len() {
+        let mut table = AddressTable::new();
+        let run = table.replay_script(&script[..length], &file, &mut []);
+        let calls = ends.iter().filter(|&&end| end <= length).count();
+        let told = TableReplayed {
+            calls: calls as u64,
+            accepted: calls.min(3) as u64,
+            last: last[calls],
+        };
+        assert_eq!(run, told, "{length}");
+        let there = (1..3).contains(&calls);
+        assert_eq!(table.find(1, 5, b"ab").is_ok(), there, "{length}");
+    }
+    // A length that no script has the bytes for.
+    for length in [3, 1 << 32, u64::MAX - 8, u64::MAX] {
+        for kind in 0..3 {
+            let script = [kind, 1, 5, length, 97, 98];
+            let run = AddressTable::new().replay_script(&script, &file, &mut []);
+            assert_eq!((run.calls, run.last), (0, Ok(0)), "{length}");
+        }
+    }
+}
+
+/// The low bytes of the numbers are the name, and every kind from 3 on is a fill.
+#[test]
+fn any_numbers_are_calls() {
+    let mut table = AddressTable::new();
+    let wide = [0, 2, u64::MAX, 2, 0xFF61, u64::MAX - 0x9D, 8];
+    assert_eq!(table.replay_script(&wide, &[], &mut []).accepted, 1);
+    assert_eq!(table.find(2, u64::MAX, b"ab"), Ok(8));
+    let file = real("exe-imports-32");
+    for kind in [3, 4, 1 << 32, u64::MAX] {
+        let mut list = [7; 9];
+        let run = table.replay_script(&[kind, 1], &file, &mut list);
+        assert_eq!((run.accepted, list), (1, [0; 9]), "{kind}");
+    }
+    let mut rng = Rng::new(3);
+    for _ in 0..2_000 {
+        let length = rng.below(60);
+        let script: Vec<u64> = (0..length)
+            .map(|_| {
+                if rng.below(9) == 0 {
+                    rng.next()
+                } else {
+                    rng.below(5)
+                }
+            })
+            .collect();
+        let run = table.replay_script(&script, &[], &mut []);
+        assert!(run.accepted <= run.calls && 2 * run.calls <= length);
     }
 }
 

@@ -185,6 +185,24 @@ static void address_table(void)
     EXPECT(REFUSED(v, 1, 0, 0));
 }
 
+/* An addition, a refused one, a fill, a look-up and a removal as one list, whole and cut short. */
+static void table_calls(void)
+{
+    static uint64_t table[XCOFF_TABLE_NUMBERS];
+    static const uint64_t script[] = {0, 2, 1, 5, 'e', 'r', 'r', 'n', 'o', 9, 0, 3, 1, 1, 'e', 9, 3, 2,
+                                      2, 2, 1, 5, 'e', 'r', 'r', 'n', 'o', 1, 2, 1, 5, 'e', 'r', 'r', 'n', 'o'};
+    uint64_t list[9];
+    xcoff_table_replay_answer r = xcoff_table_replay(file, length, NULL, 0, table, NULL, 0);
+    EXPECT(ACCEPTED(r) && r.address == 0 && r.calls == 0 && r.accepted == 0);
+    memset(list, 0x55, sizeof list);
+    r = xcoff_table_replay(file, length, script, 16, table, list, 9);
+    EXPECT(REFUSED(r, 8, 3, 0) && r.address == 0 && r.calls == 2 && r.accepted == 1 && list[0] == 0x5555555555555555);
+    r = xcoff_table_replay(file, length, script, 35, table, list, 9);
+    EXPECT(ACCEPTED(r) && r.address == 9 && r.calls == 4 && r.accepted == 3 && list[0] == 9 && list[1] == 0);
+    r = xcoff_table_replay(file, length, script, 36, table, list, 8);
+    EXPECT(ACCEPTED(r) && r.address == 0 && r.calls == 5 && r.accepted == 3 && xcoff_table_count(table, 2).count == 0);
+}
+
 static void module(void)
 {
     xcoff_module_answer m = xcoff_module(file, length);
@@ -716,6 +734,7 @@ int main(int argc, char **argv)
     visibilities();
     lines();
     address_table();
+    table_calls();
     module();
     offsets();
     images();

@@ -39,6 +39,10 @@ ghost use Rattle.address_book.specs.Book.{key};
 ghost use Rattle.address_book.specs.Call.{Call, checkOf, numberOf, memoryIn, reportOfNumber};
 ghost use Rattle.address_table.specs.Table.{bookOf, contentsAfter};
 ghost use Rattle.address_fill.specs.Fill.{placesAt};
+ghost use Rattle.address_book.specs.Run.{run};
+ghost use Rattle.address_table.specs.Run.{contentsRun};
+ghost use Rattle.table_replay.specs.Script.{scriptCalls};
+ghost use Rattle.table_replay.specs.Answer.{tableReplayAnswer, reportOfTableReplay, listRun};
 ghost use Rattle.offset.specs.Report.{reportHead, reportOfRange};
 use address_book::NumberReport;
 use csect_lookup::CsectReport;
@@ -63,6 +67,7 @@ use section_lookup::SectionReport;
 use sheet::SheetReport;
 use srecord::LengthReport;
 use symbol_lookup::SymbolReport;
+use table_replay::TableReplayReport;
 use walk::WalkReport;
 
 // Which version of this interface the archive has: XCOFF_VERSION of the header that it was made with.
@@ -562,6 +567,23 @@ pub extern "C" fn xcoff_table_fill(
     ensures list { λ _. ⌜ now (list .exit) ≡ memoryIn (length (bookOf (now (table .entry)))) (bookOf (now (table .entry))) (Call.fill bench (placesAt (now (file .entry))) (length (now (list .entry)))) (now (list .entry)) ⌝ }
 {
     offset::report_head(file, address_fill::table_fill(file, table, bench, list))
+}
+
+// Runs the table calls that `script` encodes, fills of the module in `file` into `list`: how many, how many of them were accepted, and
+// the last one's answer.
+#[no_mangle]
+pub extern "C" fn xcoff_table_replay(
+    file: &[u8],
+    script: &[u64],
+    table: &mut [u64; 4097],
+    list: &mut [u64],
+) -> TableReplayReport
+    ensures answer { λ r. ⌜ r ≡ reportOfTableReplay (now (file .entry)) (tableReplayAnswer (scriptCalls (now (file .entry)) (now (list .entry)) (now (script .entry))) (bookOf (now (table .entry)))) ⌝ }
+    ensures rows { λ _. ⌜ bookOf (now (table .exit)) ≡ run (scriptCalls (now (file .entry)) (now (list .entry)) (now (script .entry))) (bookOf (now (table .entry))) ⌝ }
+    ensures table { λ _. ⌜ now (table .exit) ≡ contentsRun (scriptCalls (now (file .entry)) (now (list .entry)) (now (script .entry))) (now (table .entry)) ⌝ }
+    ensures list { λ _. ⌜ now (list .exit) ≡ listRun (scriptCalls (now (file .entry)) (now (list .entry)) (now (script .entry))) (bookOf (now (table .entry))) (now (list .entry)) ⌝ }
+{
+    table_replay::report_replay(file, table_replay::replay_table(file, script, table, list))
 }
 
 // How many rows a bench has.

@@ -1,5 +1,6 @@
 //! The address table: after each call of a list the answer, the filled list, and both benches' rows are the other
-//! implementation's, whose table is a plain map; a refused call leaves the library's memory as it was.
+//! implementation's, whose table is a plain map; a refused call leaves the library's memory as it was. The whole list by one
+//! `replay` answers and leaves the same.
 
 use crate::compare::{answers, same, Agreed, Agreement, Difference};
 use crate::lent::Lent;
@@ -32,7 +33,92 @@ pub fn calls(file: &[u8], calls: &[TableCall]) -> Agreement {
         }
     }
     kept(&ours)?;
+    replayed(file, calls, &ours)?;
     Ok(agreed)
+}
+
+/// The list by one call of the library, and of a short list each list that begins it: the counts, the last answer, the rows and the
+/// one list that all its fills write are the other implementation's, and the memory is that of the calls one by one.
+fn replayed(
+    file: &[u8],
+    calls: &[TableCall],
+    one_by_one: &xcoff::AddressTable,
+) -> Result<(), Difference> {
+    let fills = calls.iter().find_map(|call| match call {
+        TableCall::Fill { list, .. } => Some(list.clone()),
+        _ => None,
+    });
+    let before = fills.unwrap_or_default();
+    let mut theirs = AddressTable::default();
+    let mut list = before.clone();
+    let mut accepted = 0;
+    for (n, call) in calls.iter().enumerate() {
+        let last = run_on(&mut theirs, file, call, &mut list);
+        accepted += u64::from(last.is_ok());
+        if n >= 12 && n + 1 < calls.len() {
+            continue;
+        }
+        let mut ours = xcoff::AddressTable::new();
+        let mut lent = Lent::new(&before, 0x5A5A_5A5A);
+        let own: Vec<xcoff::TableCall> = calls[..=n].iter().map(our_call).collect();
+        let all = ours.replay(&own, file, lent.slice());
+        let part = format!("replay of {} table calls", n + 1);
+        let counts = (all.calls, all.accepted);
+        same(
+            &format!("counts of a {part}"),
+            &counts,
+            &(n as u64 + 1, accepted),
+        )?;
+        answers(&format!("last answer of a {part}"), all.last, last)?;
+        lent.holds(&format!("list after a {part}"), &list)?;
+        rows(&ours, &theirs, &format!("after a {part}"))?;
+        if n + 1 == calls.len() {
+            same(
+                &format!("memory after a {part}"),
+                &(ours == *one_by_one),
+                &true,
+            )?;
+        }
+    }
+    Ok(())
+}
+
+/// One call of the other implementation, whose fills all write one list.
+fn run_on(
+    table: &mut AddressTable,
+    file: &[u8],
+    call: &TableCall,
+    list: &mut Vec<u64>,
+) -> Result<u64, Refusal> {
+    let mut call = call.clone();
+    if let TableCall::Fill { list: own, .. } = &mut call {
+        own.clone_from(list);
+    }
+    match run_table_call(table, file, &call) {
+        TableAnswer::Done => Ok(0),
+        TableAnswer::Address(address) => Ok(address),
+        TableAnswer::Refused(refusal) => Err(refusal),
+        TableAnswer::Filled(result, filled) => {
+            *list = filled;
+            result.map(|()| 0)
+        }
+    }
+}
+
+fn our_call(call: &TableCall) -> xcoff::TableCall<'_> {
+    fn name(row: &RowKey) -> xcoff::RowName<'_> {
+        xcoff::RowName {
+            bench: row.bench,
+            file_id: row.file_id,
+            name: &row.name,
+        }
+    }
+    match call {
+        TableCall::Add(row, address) => xcoff::TableCall::Add(name(row), *address),
+        TableCall::Remove(row) => xcoff::TableCall::Remove(name(row)),
+        TableCall::LookUp(row) => xcoff::TableCall::Find(name(row)),
+        TableCall::Fill { bench, .. } => xcoff::TableCall::Fill(*bench),
+    }
 }
 
 /// One call of both; gives its refusal.

@@ -1,0 +1,3 @@
+-- What the contract of `replay_table` cites.
+pub mod Script
+pub mod Answer
