@@ -176,7 +176,7 @@ pub extern "C" fn xcoff_import_member(file: &[u8], n: u64) -> RangeReport
 pub extern "C" fn xcoff_sheet_head(sheet: &[u8]) -> SheetReport
     ensures { λ r. ⌜ r ≡ reportOfSheet (headAnswer (now (sheet .entry))) ⌝ }
 {
-    sheet::report_sheet(sheet::sheet_head(sheet))
+    sheet::report_sheet(plan_sheet::sheet_head(sheet))
 }
 
 // Reads a plan sheet into a list of exactly as many places as it has addresses.
@@ -185,7 +185,7 @@ pub extern "C" fn xcoff_read_sheet(sheet: &[u8], list: &mut [u64]) -> SheetRepor
     ensures answer { λ r. ⌜ r ≡ reportOfSheet (readAnswer (now (sheet .entry)) (length (now (list .entry)))) ⌝ }
     ensures list { λ _. ⌜ now (list .exit) ≡ readList (now (sheet .entry)) (now (list .entry)) ⌝ }
 {
-    sheet::report_sheet(sheet::read_sheet(sheet, list))
+    sheet::report_sheet(plan_sheet::read_sheet(sheet, list))
 }
 
 // Writes the sheet of a plan into a buffer of exactly its length.
@@ -194,7 +194,7 @@ pub extern "C" fn xcoff_write_sheet(text: u64, data: u64, list: &[u64], sheet: &
     ensures answer { λ r. ⌜ r ≡ sheetHead (writeCheck (length (now (list .entry))) (length (now (sheet .entry)))) ⌝ }
     ensures sheet { λ _. ⌜ now (sheet .exit) ≡ writeSheet text «data» (now (list .entry)) (now (sheet .entry)) ⌝ }
 {
-    sheet::report_head(sheet::write_sheet(VirtualAddress(text), VirtualAddress(data), list, sheet))
+    sheet::report_head(plan_sheet::write_sheet(VirtualAddress(text), VirtualAddress(data), list, sheet))
 }
 
 // Builds the images of the module for a plan.
