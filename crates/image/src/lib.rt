@@ -46,7 +46,7 @@ fn build_valid(
         Verdict::Accepted => {
             raw_image::fill_raw(file, l, text, data);
             let d = displacement::displacements(at, l);
-            apply::apply_all(file, l, d, false, imports, imports, text, data);
+            apply_all::apply_all(file, l, d, false, imports, imports, text, data);
             CallAnswer::Done(displacement::reach(l, at))
         }
     }
@@ -81,7 +81,7 @@ fn move_valid(
         Verdict::Refused(x) => CallAnswer::Refused(x),
         Verdict::Accepted => {
             let d = displacement::differences(from, to);
-            apply::apply_all(file, l, d, true, from_imports, to_imports, text, data);
+            apply_all::apply_all(file, l, d, true, from_imports, to_imports, text, data);
             CallAnswer::Done(displacement::reach(l, to))
         }
     }

@@ -128,7 +128,7 @@ pub fn module_of(file: &[u8]) -> LoadableAnswer
     ensures cause { λ r. ⌜ r ≡ loadableAt (now (file .entry)) ⌝ }
     ensures report { λ r. ⌜ reportOfModule (now (file .entry)) r ≡ moduleReport (now (file .entry)) ⌝ }
 {
-    let a = module::find_module(file);
+    let a = module_layout::find_module(file);
     match a {
         ModuleAnswer::Refused(x) => LoadableAnswer::Refused(x),
         ModuleAnswer::Found(m) => load(file, m),

@@ -136,7 +136,7 @@ pub extern "C" fn xcoff_module(file: &[u8]) -> ModuleReport
 pub extern "C" fn xcoff_loader_symbol(file: &[u8], i: u64) -> LoaderSymbolReport
     ensures { λ r. ⌜ r ≡ loaderSymbolReport (now (file .entry)) i ⌝ }
 {
-    lookup::report_loader_symbol(file, lookup::loader_symbol(file, i))
+    loader_lookup::report_loader_symbol(file, loader_lookup::loader_symbol(file, i))
 }
 
 // Its name.
@@ -144,7 +144,7 @@ pub extern "C" fn xcoff_loader_symbol(file: &[u8], i: u64) -> LoaderSymbolReport
 pub extern "C" fn xcoff_loader_symbol_name(file: &[u8], i: u64) -> RangeReport
     ensures { λ r. ⌜ r ≡ reportOfRange (now (file .entry)) (loaderNameAt (now (file .entry)) i) ⌝ }
 {
-    offset::report_range(file, lookup::loader_symbol_name_range(file, i))
+    offset::report_range(file, loader_lookup::loader_symbol_name_range(file, i))
 }
 
 // The path of import id `n`, from 0.
@@ -258,7 +258,7 @@ pub extern "C" fn xcoff_replay(
     ensures answer { λ r. ⌜ r ≡ reportOfReplay (now (file .entry)) (replayAnswer (relocatableAt (now (file .entry))) (callsOf (now (script .entry))) (images (now (text .entry)) (now («data» .entry)))) ⌝ }
     ensures images { λ _. ⌜ images (now (text .exit)) (now («data» .exit)) ≡ bookImages (relocatableAt (now (file .entry))) (bookAfter (relocatableAt (now (file .entry))) (callsOf (now (script .entry))) (images (now (text .entry)) (now («data» .entry)))) ⌝ }
 {
-    replay::report_replay(file, replay::replay(file, script, text, data))
+    replay::report_replay(file, replay_calls::replay(file, script, text, data))
 }
 
 // How long the record text of a module's images for a plan is.
