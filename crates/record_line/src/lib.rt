@@ -19,7 +19,15 @@ fn put_run(out: &mut [u8], at: usize, image: &[u8], from: usize, n: usize)
 }
 
 // A line with the `n` bytes of `image` from `from`.
-pub fn put_line(out: &mut [u8], at: usize, kind: u8, address: u64, image: &[u8], from: usize, n: usize)
+pub fn put_line(
+    out: &mut [u8],
+    at: usize,
+    kind: u8,
+    address: u64,
+    image: &[u8],
+    from: usize,
+    n: usize,
+)
     requires { ⌜ (at + lineLength n ≤ length (now out)) × (from + n ≤ length (now image)) × (n ≤ 32) ⌝ }
     ensures { λ _. ⌜ now (out .exit) ≡ sets (now (out .entry)) at (lineOf (slot kind address n) (take n (drop from (now (image .entry))))) ⌝ }
 {
@@ -28,7 +36,11 @@ pub fn put_line(out: &mut [u8], at: usize, kind: u8, address: u64, image: &[u8],
     let sum = record::sum_bytes(&image[from..to]);
     put_run(out, at + 12, image, from, n);
     let end = at + 12 + 2 * n;
-    record::put_hex(out, end, record::line_checksum(kind, address, n, sum as u64));
+    record::put_hex(
+        out,
+        end,
+        record::line_checksum(kind, address, n, sum as u64),
+    );
     record::put(out, end + 2, 10);
 }
 

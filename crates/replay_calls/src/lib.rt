@@ -21,7 +21,7 @@ fn do_build(file: &[u8], s: &[u64], at: usize, text: &mut [u8], data: &mut [u8])
 {
     let addresses = replay::addresses_at(s, at);
     let imports = replay::imports_at(s, at);
-    image::build_images(file, addresses, imports, text, data)
+    module_images::build_images(file, addresses, imports, text, data)
 }
 
 // Moves from the plan at a place to the one after it.
@@ -35,7 +35,7 @@ fn do_move(file: &[u8], s: &[u64], at: usize, text: &mut [u8], data: &mut [u8]) 
     let from_imports = replay::imports_at(s, at);
     let to = replay::addresses_at(s, next);
     let to_imports = replay::imports_at(s, next);
-    image::move_images(file, from, from_imports, to, to_imports, text, data)
+    module_images::move_images(file, from, from_imports, to, to_imports, text, data)
 }
 
 // Makes the call at a place.

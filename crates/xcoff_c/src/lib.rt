@@ -194,7 +194,12 @@ pub extern "C" fn xcoff_write_sheet(text: u64, data: u64, list: &[u64], sheet: &
     ensures answer { λ r. ⌜ r ≡ sheetHead (writeCheck (length (now (list .entry))) (length (now (sheet .entry)))) ⌝ }
     ensures sheet { λ _. ⌜ now (sheet .exit) ≡ writeSheet text «data» (now (list .entry)) (now (sheet .entry)) ⌝ }
 {
-    sheet::report_head(plan_sheet::write_sheet(VirtualAddress(text), VirtualAddress(data), list, sheet))
+    sheet::report_head(plan_sheet::write_sheet(
+        VirtualAddress(text),
+        VirtualAddress(data),
+        list,
+        sheet,
+    ))
 }
 
 // Builds the images of the module for a plan.
@@ -214,7 +219,10 @@ pub extern "C" fn xcoff_build(
         text: VirtualAddress(at),
         data: VirtualAddress(dataat),
     };
-    image::report_call(file, image::build_images(file, addresses, list, text, data))
+    image::report_call(
+        file,
+        module_images::build_images(file, addresses, list, text, data),
+    )
 }
 
 // Moves images from one plan to another, taking the buffers as they are.
@@ -243,7 +251,7 @@ pub extern "C" fn xcoff_move(
     };
     image::report_call(
         file,
-        image::move_images(file, from, list, to, tolist, text, data),
+        module_images::move_images(file, from, list, to, tolist, text, data),
     )
 }
 
@@ -275,7 +283,7 @@ pub extern "C" fn xcoff_records_length(
         text: VirtualAddress(at),
         data: VirtualAddress(dataat),
     };
-    srecord::report_length(file, srecord::records_length(file, addresses, list))
+    srecord::report_length(file, module_records::records_length(file, addresses, list))
 }
 
 // Writes two images, as they are, as S-records for a plan.
@@ -298,7 +306,7 @@ pub extern "C" fn xcoff_write_records(
     };
     offset::report_head(
         file,
-        srecord::write_records(file, addresses, list, text, data, records),
+        module_records::write_records(file, addresses, list, text, data, records),
     )
 }
 
@@ -323,7 +331,7 @@ pub extern "C" fn xcoff_read_records(
     };
     offset::report_head(
         file,
-        srecord::read_records(file, addresses, list, records, text, data),
+        module_records::read_records(file, addresses, list, records, text, data),
     )
 }
 
@@ -389,7 +397,7 @@ pub extern "C" fn xcoff_find_line(file: &[u8], section: u64, address: u64) -> Li
 {
     line_lookup::report_line(
         file,
-        line_lookup::find_line(file, SectionNumber(section), address),
+        line_find::find_line(file, SectionNumber(section), address),
     )
 }
 
@@ -400,7 +408,7 @@ pub extern "C" fn xcoff_line_count(file: &[u8], section: u64) -> LineCountReport
 {
     line_lookup::report_count(
         file,
-        line_lookup::find_line_table(file, SectionNumber(section)),
+        line_find::find_line_table(file, SectionNumber(section)),
     )
 }
 
@@ -421,7 +429,7 @@ pub extern "C" fn xcoff_line_table(file: &[u8], section: u64, rows: &mut [u64]) 
 pub extern "C" fn xcoff_salvage_count(file: &[u8]) -> CountReport
     ensures { λ r. ⌜ r ≡ reportOfCount (now (file .entry)) (countAnswer (now (file .entry))) ⌝ }
 {
-    salvage::report_count(file, salvage::salvage_count(file))
+    salvage::report_count(file, salvage_file::salvage_count(file))
 }
 
 // Writes a copy in which the walk reaches the table's end, and 8 bytes of report for each change.
@@ -431,7 +439,7 @@ pub extern "C" fn xcoff_salvage(file: &[u8], copy: &mut [u8], report: &mut [u8])
     ensures copied { λ _. ⌜ now (copy .exit) ≡ copyAfter (now (file .entry)) (now (copy .entry)) (length (now (report .entry))) ⌝ }
     ensures reported { λ _. ⌜ now (report .exit) ≡ reportAfter (now (file .entry)) (length (now (copy .entry))) (now (report .entry)) ⌝ }
 {
-    salvage::report_count(file, salvage::salvage(file, copy, report))
+    salvage::report_count(file, salvage_file::salvage(file, copy, report))
 }
 
 // Adds a bench's row to the address table, or replaces its address.
