@@ -495,35 +495,36 @@ fn counted_lines_are_counted() {
     none(problems);
 }
 
-/// Each crate of crates.txt with its layer: one above the highest of the crates that it stands on.
-fn layers() -> BTreeMap<String, u32> {
-    let text = read("crates.txt");
-    let lines: BTreeMap<&str, &str> = text
-        .lines()
-        .filter_map(|line| line.split('#').next()?.split_once(':'))
-        .collect();
-    fn layer(krate: &str, lines: &BTreeMap<&str, &str>) -> u32 {
-        let list = lines.get(krate).copied();
-        let below = list.into_iter().flat_map(str::split_whitespace);
-        let highest = below.filter(|below| lines.contains_key(below));
-        1 + highest.map(|below| layer(below, lines)).max().unwrap_or(0)
+/// The layers of docs/layers.txt, each with its crates.
+fn layers() -> Vec<(String, Vec<String>)> {
+    let mut found: Vec<(String, Vec<String>)> = Vec::new();
+    for line in read("docs/layers.txt").lines() {
+        let line = line.split('#').next().unwrap_or("");
+        if line.starts_with(' ') {
+            let crates = line.split_whitespace().map(String::from);
+            found.last_mut().unwrap().1.extend(crates);
+        } else if let Some((name, _)) = line.split_once(':') {
+            found.push((name.to_string(), Vec::new()));
+        }
     }
-    lines
-        .keys()
-        .map(|krate| (krate.to_string(), layer(krate, &lines)))
-        .collect()
+    found
 }
 
 #[test]
 fn the_architecture_has_each_crate_at_its_layer() {
     let text = read("docs/ARCHITECTURE.md");
-    let mut drawn: Vec<(String, u32)> = rows_with(&text, "Layer")
-        .iter()
-        .map(|row| {
-            let name = names(row.cell("Crate"))[0].to_string();
-            (name, row.cell("Layer").parse().unwrap())
-        })
-        .collect();
-    drawn.sort();
-    assert_eq!(drawn, layers().into_iter().collect::<Vec<_>>());
+    let mut drawn: Vec<(String, Vec<String>)> = Vec::new();
+    for row in rows_with(&text, "Layer") {
+        let layer = row.cell("Layer");
+        if drawn.last().is_none_or(|(last, _)| last != layer) {
+            drawn.push((layer.to_string(), Vec::new()));
+        }
+        let name = names(row.cell("Crate"))[0].to_string();
+        drawn.last_mut().unwrap().1.push(name);
+    }
+    let mut kept = layers();
+    for (_, crates) in drawn.iter_mut().chain(&mut kept) {
+        crates.sort();
+    }
+    assert_eq!(drawn, kept);
 }

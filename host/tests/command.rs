@@ -2,9 +2,8 @@
 
 mod command_runner;
 
-use command_runner::{real, sheet, tests_folder, Folder};
-use std::fs;
-use xcoff::{loader_symbol_table, module, section, Anchor, Format, Plan};
+use command_runner::{has_fixed_text, linked_images, pairs, real, sheet, Folder};
+use xcoff::{loader_symbol_table, module, Anchor, Format, Plan};
 
 // ---- plans and sheets
 
@@ -89,38 +88,6 @@ fn a_sheet_is_printed_alone_and_beside_its_module() {
 
 // ---- builds and moves: modules that GNU ld linked twice
 
-fn pairs() -> Vec<String> {
-    let entries = fs::read_dir(tests_folder().join("pairs")).unwrap();
-    let mut names: Vec<String> = entries
-        .map(|e| e.unwrap().file_name().into_string().unwrap())
-        .filter(|n| n.contains(".a-"))
-        .collect();
-    names.sort();
-    assert!(names.len() >= 30, "{} pairs", names.len());
-    names
-}
-
-fn raw(file: &[u8], n: u64, length: u64) -> Vec<u8> {
-    let s = section(file, n).unwrap();
-    let bytes = if s.raw {
-        &file[s.scnptr as usize..(s.scnptr + s.size) as usize]
-    } else {
-        &[][..]
-    };
-    let mut bytes = bytes.to_vec();
-    bytes.resize(length as usize, 0);
-    bytes
-}
-
-/// The images that ld wrote.
-fn linked(file: &[u8]) -> (Vec<u8>, Vec<u8>) {
-    let m = module(file).unwrap();
-    (
-        raw(file, m.text.number, m.text.size),
-        raw(file, m.data.number, m.image),
-    )
-}
-
 /// `plan` for the addresses that a module records.
 fn plan_for(folder: &Folder, file: &str, addresses: &Plan, out: &str) {
     let text = format!("{:x}", addresses.text);
@@ -179,10 +146,10 @@ fn a_module_built_for_the_others_addresses_has_its_bytes_and_moves_back() {
         plan_for(&folder, &a, &recorded(&file_b), "b.sheet");
         let out = folder.done(&["build", &a, "b.sheet", "-o", "text", "data"]);
         assert_eq!(out, built(&file_b), "{a}");
-        let (text, data) = linked(&file_b);
+        let (text, data) = linked_images(&file_b);
         assert_eq!(folder.read("data"), data, "{b}: data");
         // ld keeps no loader entries for the read-only text of this pair.
-        if !a.starts_with("rotext") {
+        if !has_fixed_text(&a) {
             assert_eq!(folder.read("text"), text, "{b}: text");
         }
 
@@ -193,7 +160,7 @@ fn a_module_built_for_the_others_addresses_has_its_bytes_and_moves_back() {
         let expected = built(&file_a).replace("built text", "moved text2");
         assert_eq!(out, expected.replace("and data", "and data2"), "{a}");
         let images = (folder.read("text2"), folder.read("data2"));
-        assert_eq!(images, linked(&file_a), "{a} moved back");
+        assert_eq!(images, linked_images(&file_a), "{a} moved back");
         folder.done(&["check", &a, "b.sheet", "text", "data"]);
         folder.done(&["check", &a, "a.sheet", "text2", "data2"]);
     }

@@ -4,7 +4,7 @@ mod command_runner;
 mod made;
 
 use command_runner::{real, sheet, Folder};
-use made::{Entry, Module, Symbol};
+use made::{Module, Symbol};
 use xcoff::Format;
 
 const M: &str = "exe-dso-32";
@@ -49,15 +49,7 @@ fn module(format: Format, kind: u16, fields: &[&[(u32, bool)]]) -> Vec<u8> {
         Symbol::Import,
         Symbol::Deferred,
     ];
-    for (n, entries) in fields.iter().enumerate() {
-        m.entries
-            .extend(entries.iter().map(|&(symbol, subtracts)| Entry {
-                address: m.data_address + 8 * n as u64,
-                symbol,
-                kind: kind + u16::from(subtracts),
-                section: 2,
-            }));
-    }
+    m.relocate(2, m.data_address, kind, fields);
     m.bytes()
 }
 

@@ -3,7 +3,7 @@
 
 mod command_runner;
 
-use command_runner::{real, rows, Folder};
+use command_runner::{real, recorded, rows, Folder};
 
 const M: &str = "exe-imports-32";
 
@@ -11,17 +11,7 @@ const M: &str = "exe-imports-32";
 fn bench(name: &str, text: &str, data: &str) -> Folder {
     let folder = Folder::new();
     folder.write("m", &real(name));
-    folder.done(&[
-        "plan",
-        "m",
-        "--recorded",
-        "--text",
-        text,
-        "--data",
-        data,
-        "-o",
-        "s",
-    ]);
+    folder.done(&recorded("m", text, data));
     folder.done(&["build", "m", "s", "-o", "t", "d"]);
     folder
 }
@@ -173,19 +163,8 @@ fn a_map_is_drawn() {
     let out = folder.done(&["map", "m", "s"]);
     assert!(out.ends_with(DRAWN), "{out}");
     // Data below text, touching; an import that lies in data.
-    folder.done(&[
-        "plan",
-        "m",
-        "--recorded",
-        "--text",
-        "80000",
-        "--data",
-        "7ff60",
-        "--import",
-        "errno=7ff64",
-        "-o",
-        "s",
-    ]);
+    let import = ["--import", "errno=7ff64"];
+    folder.done(&[&recorded("m", "80000", "7ff60")[..], &import].concat());
     let out = folder.done(&["map", "m", "s"]);
     assert!(out.contains("\n         : 0 bytes between\n"), "{out}");
     assert!(
@@ -197,17 +176,7 @@ fn a_map_is_drawn() {
     assert!(json.starts_with("{\"table\":\"blocks\",\"part\":\"text\",\"address\":\"00080000\",\"last\":\"0008009f\",\"size\":160,\"fields\":0}\n"), "{json}");
     assert_eq!(json.lines().count(), 4 + 2 + 6);
     // Overlapping images are drawn all the same, with the warning.
-    let ran = folder.run(&[
-        "plan",
-        "m",
-        "--recorded",
-        "--text",
-        "80000",
-        "--data",
-        "80010",
-        "-o",
-        "s",
-    ]);
+    let ran = folder.run(&recorded("m", "80000", "80010"));
     assert_eq!(ran.status, Some(0));
     let ran = folder.run(&["map", "m", "s"]);
     assert_eq!(ran.status, Some(0));

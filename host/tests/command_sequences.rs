@@ -2,7 +2,7 @@
 
 mod command_runner;
 
-use command_runner::{real, sheet, Folder, Ran};
+use command_runner::{real, recorded, sheet, Folder, Ran};
 use std::fs::File;
 use std::io::Write;
 use std::process::{Child, Command, Stdio};
@@ -365,20 +365,7 @@ fn imports_at_address_0_that_nobody_gave_are_listed() {
 fn images_that_overlap_or_are_not_aligned_are_warned_of() {
     let folder = Folder::new();
     folder.copy("exe-imports-32");
-    let plan = |text: &'static str, data: &'static str| {
-        let args = [
-            "plan",
-            "exe-imports-32",
-            "--recorded",
-            "--text",
-            text,
-            "--data",
-            data,
-            "-o",
-            "s",
-        ];
-        folder.run(&args)
-    };
+    let plan = |text, data| folder.run(&recorded("exe-imports-32", text, data));
     let overlap = "xcoff: warning: the images overlap: text 00010000-0001009f, data 00010080-0001011f, 32 addresses in both; on the card one is written over the other, and S-records of them are refused (24 CLASH)\n";
     let ran = plan("10000", "10080");
     assert_eq!((ran.status, ran.err.as_str()), (Some(0), overlap));
@@ -405,19 +392,7 @@ fn images_at_the_end_of_the_address_space_overlap_or_not() {
     let out = folder.done(&["module", "exe-imports-64"]);
     let size: u64 = command_runner::rows(&out, "part")[0][3].parse().unwrap();
     let end = format!("{:x}", 0u64.wrapping_sub(size));
-    let plan = |data: &str| {
-        folder.run(&[
-            "plan",
-            "exe-imports-64",
-            "--recorded",
-            "--text",
-            &end,
-            "--data",
-            data,
-            "-o",
-            "s",
-        ])
-    };
+    let plan = |data: &str| folder.run(&recorded("exe-imports-64", &end, data));
     assert_eq!(plan("80000").err, "");
     assert_eq!(plan("80000").status, Some(0));
     let image: u64 = command_runner::rows(&out, "part")[3][3].parse().unwrap();

@@ -2,7 +2,7 @@
 
 mod command_runner;
 
-use command_runner::{old_sheet, real, sheet, Folder};
+use command_runner::{old_sheet, real, recorded, sheet, Folder};
 use std::collections::BTreeMap;
 
 const M: &str = "exe-imports-32";
@@ -283,17 +283,7 @@ fn a_key_has_one_type_in_all_tables() {
 fn builds_moves_and_checks_are_objects_too() {
     let folder = Folder::new();
     folder.copy(M);
-    folder.done(&[
-        "plan",
-        M,
-        "--recorded",
-        "--text",
-        "10000",
-        "--data",
-        "80000",
-        "-o",
-        "s",
-    ]);
+    folder.done(&recorded(M, "10000", "80000"));
     let images = |text: &str, data: &str| {
         let row = |image: &str, path: &str, address: &str, last: &str| {
             format!(

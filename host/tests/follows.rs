@@ -5,7 +5,7 @@ mod command_runner;
 mod made;
 
 use command_runner::{real, rows, tests_folder, Folder};
-use made::{Entry, Module, Symbol};
+use made::{Module, Symbol};
 use std::collections::{BTreeMap, BTreeSet};
 use xcoff::{Format, Image, Plan, PlanAddress};
 
@@ -295,15 +295,7 @@ fn made_module(format: Format, kind: u16) -> Module {
         Symbol::Bss,
     ];
     for (section, start) in [(1, m.text_address), (2, m.data_address)] {
-        for (n, mixture) in MIXTURES.iter().enumerate() {
-            m.entries
-                .extend(mixture.iter().map(|&(symbol, subtracts)| Entry {
-                    address: start + 8 * n as u64,
-                    symbol,
-                    kind: kind + u16::from(subtracts),
-                    section,
-                }));
-        }
+        m.relocate(section, start, kind, &MIXTURES);
     }
     m
 }

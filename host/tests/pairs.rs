@@ -1,9 +1,11 @@
 //! Modules that GNU ld linked twice, at other addresses: building one for the other's plan gives the other's bytes.
 
-use std::path::PathBuf;
+mod command_runner;
+
+use command_runner::{has_fixed_text, linked_images, pairs, real};
 use xcoff::{
-    build_images, loader_symbol, module, move_images, read_sheet, replay, section, write_sheet,
-    Call, Module, Plan, Reached, Refusal, Replayed,
+    build_images, loader_symbol, module, move_images, read_sheet, replay, write_sheet, Call,
+    Module, Plan, Reached, Refusal, Replayed,
 };
 
 struct Linked {
@@ -14,23 +16,9 @@ struct Linked {
     data: Vec<u8>,
 }
 
-fn raw(file: &[u8], n: u64, length: u64) -> Vec<u8> {
-    let s = section(file, n).unwrap();
-    let mut bytes = if s.raw {
-        file[s.scnptr as usize..(s.scnptr + s.size) as usize].to_vec()
-    } else {
-        Vec::new()
-    };
-    bytes.resize(length as usize, 0);
-    bytes
-}
-
 /// What ld wrote: the images, and the plan that they are for, every import at its recorded value.
 fn linked(name: &str) -> Linked {
-    let path = PathBuf::from(env!("CARGO_MANIFEST_DIR"))
-        .join("../tests/pairs")
-        .join(name);
-    let file = std::fs::read(&path).unwrap_or_else(|e| panic!("{}: {e}", path.display()));
+    let file = real(name);
     let m = module(&file).unwrap_or_else(|r| panic!("{name}: {r}"));
     let list = (3..m.symbols + 3)
         .map(|i| loader_symbol(&file, i).unwrap().value)
@@ -40,8 +28,7 @@ fn linked(name: &str) -> Linked {
         data: m.data.address,
         list,
     };
-    let text = raw(&file, m.text.number, m.text.size);
-    let data = raw(&file, m.data.number, m.image);
+    let (text, data) = linked_images(&file);
     Linked {
         file,
         module: m,
@@ -51,26 +38,9 @@ fn linked(name: &str) -> Linked {
     }
 }
 
-fn names() -> Vec<String> {
-    let folder = PathBuf::from(env!("CARGO_MANIFEST_DIR")).join("../tests/pairs");
-    let mut names: Vec<String> = std::fs::read_dir(&folder)
-        .unwrap()
-        .map(|e| e.unwrap().file_name().into_string().unwrap())
-        .filter(|n| n.contains(".a-"))
-        .collect();
-    names.sort();
-    assert!(names.len() >= 30, "{} pairs", names.len());
-    names
-}
-
-/// ld keeps no loader entries for the read-only text of this pair: its data agrees, its text does not.
-fn has_fixed_text(name: &str) -> bool {
-    name.starts_with("rotext")
-}
-
 #[test]
 fn building_for_the_others_plan_gives_its_bytes() {
-    for name in names() {
+    for name in pairs() {
         let a = linked(&name);
         let b = linked(&name.replace(".a-", ".b-"));
         let mut text = vec![0xAA; a.text.len()];
@@ -101,7 +71,7 @@ fn building_for_the_others_plan_gives_its_bytes() {
 
 #[test]
 fn a_list_of_calls_reaches_the_last_plan() {
-    for name in names() {
+    for name in pairs() {
         let a = linked(&name);
         let b = linked(&name.replace(".a-", ".b-"));
         let mut short = a.plan.clone();
@@ -138,7 +108,7 @@ fn a_list_of_calls_answers_for_its_last_call_and_counts_them() {
         accepted: 0,
         last: Ok(none),
     };
-    for name in names() {
+    for name in pairs() {
         let a = linked(&name);
         let mut short = a.plan.clone();
         short.list.push(0);
@@ -168,7 +138,7 @@ fn a_list_of_calls_answers_for_its_last_call_and_counts_them() {
 
 #[test]
 fn a_refused_call_changes_no_byte() {
-    for name in names() {
+    for name in pairs() {
         let a = linked(&name);
         let b = linked(&name.replace(".a-", ".b-"));
         let mut text = a.text.clone();
@@ -182,7 +152,7 @@ fn a_refused_call_changes_no_byte() {
 
 #[test]
 fn a_sheet_reads_back_as_its_plan() {
-    for name in names() {
+    for name in pairs() {
         let a = linked(&name);
         let sheet = write_sheet(&a.plan).unwrap();
         assert_eq!(read_sheet(&sheet).unwrap(), a.plan, "{name}");

@@ -2,24 +2,13 @@
 //! and the fields that the rule speaks of. Made files have their places from the second implementation's generator.
 
 use reference::bytes::put;
-use reference::generate::make::{self, Field, Head, Made, Part, Wish};
-use reference::generate::rng::Rng;
+use reference::generate::make::{self, Field, Head, Made, Part};
 use reference::opening::{INFO, TDATA};
 use xcoff::{places, Place, Refusal, What};
 
 /// A module of each format with some of everything.
 fn modules() -> [Made; 2] {
-    [32, 64].map(|bits| {
-        let wish = Wish {
-            bits: Some(bits),
-            rich: true,
-            low: true,
-            kinds: vec![INFO],
-            version: Some(2),
-            ..Wish::default()
-        };
-        make::module(&mut Rng::new(4), &wish)
-    })
+    make::both_formats(|wish| wish.version = Some(2))
 }
 
 /// What is shown: the thing, its place and length, and of each field name, place and value.

@@ -3,7 +3,7 @@
 
 mod command_runner;
 
-use command_runner::{real, tests_folder};
+use command_runner::{has_fixed_text, pairs, real, tests_folder};
 use std::fs;
 use std::ops::Range;
 use xcoff::{
@@ -134,20 +134,6 @@ fn without(file: &[u8], fields: &[Range<usize>]) -> Vec<u8> {
         rest[field.clone()].fill(0);
     }
     rest
-}
-
-fn pairs() -> Vec<String> {
-    let entries = fs::read_dir(tests_folder().join("pairs")).unwrap();
-    let names = entries.map(|e| e.unwrap().file_name().into_string().unwrap());
-    let mut names: Vec<String> = names.filter(|name| name.contains(".a-")).collect();
-    names.sort();
-    assert!(names.len() >= 34, "{} pairs", names.len());
-    names
-}
-
-/// ld keeps no loader entries for the read-only text of this pair.
-fn has_fixed_text(name: &str) -> bool {
-    name.starts_with("rotext")
 }
 
 // ---- what ld wrote

@@ -46,6 +46,18 @@ value-back v n e h =
     let q : (67108864 - suc n) % 2 ^ 96 ≡ 67108864 - suc n = mod-eq-of-lt (omega arith) in
     rw (← e) (rw (le-ltb n 33554432 h, lt-ltb n 67108864 s, q) (omega arith))
 
+-- as what is added or taken away
+pub value-added : (v n : ℕ) → n ≡ v % 67108864 / 4 * 4 → n < 33554432 → pos n ≡ branchValue v
+unfolding branchValue
+value-added v n e h = rw (← e) (rw (lt-ltb n 33554432 h) refl)
+
+pub value-taken : (v n : ℕ) → n ≡ v % 67108864 / 4 * 4 → 33554432 ≤ n → negℤ (pos (67108864 - n)) ≡ branchValue v
+unfolding branchValue
+value-taken v n e h =
+    let s : n < 67108864 = (let m : v % 67108864 < 67108864 = mod-lt v (lit< tt) in omega arith) in
+    let d : 67108864 - n ≡ suc (67108864 - suc n) = omega arith in
+    rw (← e) (rw (le-ltb n 33554432 h, lt-ltb n 67108864 s, d) refl)
+
 -- ---- the test
 
 module _ (h l : ℕ) (hs : h < 4294967296) (ls : l < 18446744073709551616) where

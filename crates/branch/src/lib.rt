@@ -49,6 +49,17 @@ pub fn minus(s: Sum, a: u64) -> Sum
     Sum { high: s.high, low }
 }
 
+// The sum with the signed value of a branch word `v` added.
+pub fn add_value(s: Sum, v: u32) -> Sum
+    ensures { λ r. ⌜ sumOf r ≡ wide (pos (sumOf s) +ℤ branchValue v) ⌝ }
+{
+    let n = (v % 67108864 / 4 * 4) as u64;
+    if n < 33554432 {
+        return plus(s, n);
+    }
+    minus(s, 67108864 - n)
+}
+
 // Whether the sum is from -33,554,432 to 33,554,428 and a step of 4.
 pub fn is_in_range(s: Sum) -> bool
     ensures { λ r. ⌜ r ≡ wideInRange (sumOf s) ⌝ }

@@ -82,6 +82,14 @@ module _ (len : ℕ) (y : Summary) (k place first : ℕ) where
       by true = refl
       by false = refl
 
+  pub part-number : partAt len y k place first .number ≡ numberAt k
+  unfolding partAt
+  part-number = by (isHeldKind (sectionAt y k .kind))
+    where
+      by : (b : Bool) → cond b (heldPart (sectionAt y k) (numberAt k) (tableOr (tableOf Relocations y len (numberAt k))) place first) (emptyPart (numberAt k) place first) .number ≡ numberAt k
+      by true = refl
+      by false = refl
+
 module _ (len : ℕ) (y : Summary) (k : ℕ) where
   pub bytes-more : bytesBefore len y (suc k) ≡ bytesBefore len y k + objectSection len y k .size
   unfolding bytesBefore

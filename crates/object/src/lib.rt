@@ -42,7 +42,7 @@ pub struct ObjectReport {
 }
 
 // Whether the section is text or data.
-fn is_held_kind(k: SectionKind) -> bool
+pub fn is_held_kind(k: SectionKind) -> bool
     ensures { λ r. ⌜ r ≡ isHeldKind k ⌝ }
 {
     if k.flags() == SectionKind::TEXT {

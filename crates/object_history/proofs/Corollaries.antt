@@ -1,27 +1,28 @@
 -- What follows for object files: each branch exact, its bottom two bits kept, and which calls after an accepted one are accepted.
-use mathlib.Core.Path.{_≡_, refl, sym, _∙_, ap, subst}
+use mathlib.Core.Path.{_≡_, refl, sym, _∙_, ap, subst, fun-ext}
 use mathlib.Core.Logic.{_⊎_}
-use mathlib.Core.Bool.{true}
+use mathlib.Core.Bool.{Bool, true, false, cond}
 use mathlib.Core.List.{List, [], _∷_, _++_}
-use Prim.Native.Nat.{ℕ, _+_, _%_, _≤_, _<_}
+use Prim.Native.Nat.{ℕ, zero, suc, _+_, _/_, _%_, _≤_, _<_}
 use lib.ListN.{length, getD}
+use lib.IntN.{ℤ, pos, _+ℤ_, _-ℤ_, +ℤ-invr}
 use Rattle.word.specs.Number.{fieldAt}
 use Rattle.update.specs.Update.{Bytes}
 use Rattle.refusal.specs.declared.Refusal.{Refusal}
 use Rattle.refusal.specs.declared.Verdict.{Verdict}
 use Rattle.refusal.specs.declared.Verdict.the-variants.{Accepted, Refused}
 use Rattle.refusal.specs.Order.{_orElse_}
-use Rattle.book.specs.Machine.{Shifts, sum}
+use Rattle.book.specs.Machine.{Shifts, unshifted, sum}
 use Rattle.book.specs.Machine as machine
 use Rattle.book.specs.Entries.{All}
 use Rattle.book.proofs.Chain as chains
 use Rattle.book.proofs.Call as calls
 use Rattle.object_history.specs.declared.ObjectEntry.{ObjectEntry}
 use Rattle.object_history.specs.Entry.{applyAll, Inside}
-use Rattle.field_kind.specs.Field.{bytesIn}
-use Rattle.object_history.specs.Range.{isBranch, branchSum}
+use Rattle.field_kind.specs.Field.{bytesIn, branchLimit}
+use Rattle.object_history.specs.Range.{isBranch, amountsOn, branchSum}
 use Rattle.branch.specs.Branch.{branchValue}
-use Rattle.object_history.specs.Object.{Object, Plan, Sound, displacements, differences, builtImage, listCheck, fitCheck}
+use Rattle.object_history.specs.Object.{Placed, Object, Plan, Sound, sectionOf, moveOf, displacements, differences, SamePlan, builtImage, listCheck, fitCheck}
 use Rattle.object_history.specs.Call.{Call, build, move, roomCheck, rangeCheck, callCheck, machineOf, Accepts, effect, run, shiftsOf, startOf}
 use Rattle.object_history.proofs.Entry.{applyAll-add, applyAll-length, applyAll-zero, applyAll-outside}
 use Rattle.object_history.proofs.Range.{Kept, all-kept, each-two, range-after, range-zero}
@@ -36,6 +37,27 @@ all-map h (e ∷ es) a = (h e (a .0), all-map h es (a .1))
 pub refused-nothing : (o : Object) (c : Call) (x : List ℕ) (r : Refusal) → callCheck o (length x) x c ≡ Refused r → effect o c x ≡ x
 unfolding effect
 refused-nothing o c x r e = calls.refused-nothing (machineOf o) c x r e
+
+-- ---- plans that name the same addresses
+
+same-move : (s : Placed) (a b : ℕ) → (s .placed ≡ true → a ≡ b) → moveOf s a ≡ moveOf s b
+unfolding moveOf
+same-move s a b h = by-place (s .placed) refl
+  where
+    by-place : (t : Bool) → s .placed ≡ t → cond t (pos a -ℤ pos (s .address)) (pos 0) ≡ cond t (pos b -ℤ pos (s .address)) (pos 0)
+    by-place true q = ap (λ (n : ℕ). pos n -ℤ pos (s .address)) (h q)
+    by-place false q = refl
+
+same-displacements : (o : Object) (p q : Plan) → SamePlan o p q → displacements o p ≡ displacements o q
+same-displacements o p q s = fun-ext each
+  where
+    each : (i : ℕ) → displacements o p i ≡ displacements o q i
+    each zero = unfold displacements in refl
+    each (suc k) = unfold displacements in same-move (sectionOf o k) (getD p k 0) (getD q k 0) (s .addresses k)
+
+same-differences : (o : Object) (p q : Plan) → SamePlan o p q → differences o p q ≡ unshifted
+unfolding differences
+same-differences o p q s = fun-ext (λ i. ap (λ (d : Shifts). d i -ℤ displacements o p i) (sym (same-displacements o p q s)) ∙ +ℤ-invr (displacements o p i))
 
 -- ---- an accepted call, by its shifts and the bytes that they are applied to
 
@@ -84,6 +106,29 @@ module _ (o : Object) (sound : Sound o) where
       → branchValue (fieldAt 4 (e .field .offset) (effect o c x)) ≡ branchSum (o .entries) (shiftsOf o c) (startOf o c x) (e .field .offset)) (o .entries)
   exact-values c x a =
       all-map (λ e k b. ap (λ (y : List ℕ). branchValue (fieldAt 4 (e .field .offset) y)) (effect-start o c x a) ∙ k b .exact) (o .entries)
+      (branches-kept (shiftsOf o c) (startOf o c x) (start-length o c x a) (start-range o c x a))
+
+  -- request 5: a branch word after an accepted call. Its signed value is the exact sum of that before and of all entries on the word; "the low end of the
+  -- word, whose bottom two bits belong to the instruction and stay", and so do the six above the low 26
+  pub record BranchAfter (c : Call) (x : List ℕ) (e : ObjectEntry) : Type 0 where
+    pub value : branchValue (fieldAt 4 (e .field .offset) (effect o c x))
+        ≡ branchValue (fieldAt 4 (e .field .offset) (startOf o c x)) +ℤ amountsOn (e .field .offset) (o .entries) (shiftsOf o c)
+    pub bottom : fieldAt 4 (e .field .offset) (effect o c x) % 4 ≡ fieldAt 4 (e .field .offset) (startOf o c x) % 4
+    pub high : fieldAt 4 (e .field .offset) (effect o c x) / branchLimit % 64 ≡ fieldAt 4 (e .field .offset) (startOf o c x) / branchLimit % 64
+
+  branch-kept : (c : Call) (x : List ℕ) (e : ObjectEntry) → effect o c x ≡ applyAll (o .entries) (shiftsOf o c) (startOf o c x) → Kept (o .entries) (shiftsOf o c) (startOf o c x) e
+      → BranchAfter c x e
+  unfolding branchSum
+  branch-kept c x e q k =
+      record {
+        value = ap (λ (y : List ℕ). branchValue (fieldAt 4 (e .field .offset) y)) q ∙ k .exact;
+        bottom = ap (λ (y : List ℕ). fieldAt 4 (e .field .offset) y % 4) q ∙ k .bottom;
+        high = ap (λ (y : List ℕ). fieldAt 4 (e .field .offset) y / branchLimit % 64) q ∙ k .high;
+      }
+
+  pub branches-after : (c : Call) (x : List ℕ) → Accepts o x c → All (λ e. isBranch (e .field .kind) ≡ true → BranchAfter c x e) (o .entries)
+  branches-after c x a =
+      all-map (λ e k b. branch-kept c x e (effect-start o c x a) (k b)) (o .entries)
       (branches-kept (shiftsOf o c) (startOf o c x) (start-length o c x a) (start-range o c x a))
 
   -- ---- after an accepted build for p, a move from p to q is answered as a build for q would be
@@ -138,6 +183,37 @@ module _ (o : Object) (sound : Sound o) where
       let d : Accepts o x (build q) = sym (move-as-build p q x a) ∙ c in
       (d, ap (effect o (move p q)) i ∙ move-image p q c ∙ sym (build-image q x d))
 
+  -- after an accepted build, and moves that go each from the plan last reached, refused calls between them: a build for the last plan reached is accepted too
+  next-build : (x : List ℕ) (p g q : Plan) → displacements o g ≡ displacements o p → Accepts o x (build p) → Accepts o (builtImage o p) (move g q) → Accepts o x (build q)
+  next-build x p g q s a b = unfold callCheck in
+      (let c = build-parts o (length x) x p a in
+      let d = move-parts o (length (builtImage o p)) (builtImage o p) g q b in
+      accept-five (c .file-accepted) (d .to-listed) (d .to-fits) (c .room) (sym (ranged (c .range)) ∙ d .range))
+    where
+      ranged : rangeCheck o (displacements o p) (o .raw) ≡ Accepted → rangeCheck o (differences o g q) (builtImage o p) ≡ rangeCheck o (displacements o q) (o .raw)
+      ranged h = unfold builtImage differences in
+          (range-sum (displacements o p) (differences o g q) (o .raw) refl h
+          ∙ ap (λ (d : Shifts). rangeCheck o d (o .raw)) (ap (λ (d : Shifts). sum d (differences o g q)) (sym s) ∙ chains.differences-reach (machineOf o) g q))
+
+      accept-five : {u v w y z : Verdict} → u ≡ Accepted → v ≡ Accepted → w ≡ Accepted → y ≡ Accepted → z ≡ Accepted → (u orElse v orElse w orElse y orElse z) ≡ Accepted
+      accept-five a b c d e = rw (a, b, c, d) e
+
+  chain-accepted : (x y : List ℕ) (p : Plan) (cs : List Call) (r : Plan) → machine.Chain (machineOf o) y p cs r → y ≡ builtImage o p → Accepts o x (build p) → Accepts o x (build r)
+  chain-accepted x y p cs r machine.Chain.ended b a = a
+  chain-accepted x y p cs r (machine.Chain.moved {o = g} {q = q} {cs = ds} e s c) b a =
+      let m : Accepts o (builtImage o p) (move g q) = subst (λ (z : List ℕ). Accepts o z (move g q)) b e in
+      chain-accepted x (machine.effect (machineOf o) (move g q) y) q ds r c (unfold builtImage in chains.move-built (machineOf o) (object-lawful o sound) y p g q s b e) (next-build x p g q s a m)
+  chain-accepted x y p cs r (machine.Chain.passed {cs = ds} z e c) b a = chain-accepted x y p ds r c b a
+
+  pub chain-build : (x : List ℕ) (p : Plan) (after : List Call) (r : Plan) → Accepts o x (build p) → machine.Chain (machineOf o) (builtImage o p) p after r
+      → Accepts o x (build r) × (run o (build p ∷ after) x ≡ effect o (build r) x)
+  chain-build x p after r a c =
+      let d = chain-accepted x (builtImage o p) p after r c refl a in
+      (d, reached-images x [] p after r (start a) c ∙ sym (build-image r x d))
+    where
+      start : Accepts o x (build p) → Accepts o (run o [] x) (build p)
+      start h = unfold run in h
+
   -- "So for plans P, Q and R, with every call accepted, a build for P moved to Q and on to R equals building for R"; and that build is accepted
   pub build-move-move : (x : List ℕ) (p q r : Plan) → Accepts o x (build p) → Accepts o (effect o (build p) x) (move p q)
       → Accepts o (run o (build p ∷ move p q ∷ []) x) (move q r)
@@ -190,6 +266,16 @@ module _ (o : Object) (sound : Sound o) where
       back = unfold callCheck in
           (let a = move-parts o (length x) x p q e in
           all-accept (a .file-accepted) (a .to-listed) (a .from-listed) (a .to-fits) (a .from-fits) same-room ranged)
+
+  -- "moving to the same plan changes nothing": on any bytes, whether it is accepted or refused
+  pub move-same : (x : List ℕ) → Bytes x → (p q : Plan) → SamePlan o p q → effect o (move p q) x ≡ x
+  move-same x h p q s = by-verdict (callCheck o (length x) x (move p q)) refl
+    where
+      by-verdict : (v : Verdict) → callCheck o (length x) x (move p q) ≡ v → effect o (move p q) x ≡ x
+      by-verdict Accepted e =
+          effect-start o (move p q) x e ∙ ap (λ (d : Shifts). applyAll (o .entries) d x) (same-differences o p q s)
+          ∙ applyAll-zero (o .entries) x h (inside-length (o .entries) (o .raw) x (sym (accepted-length o x (move p q) e)) (sound .inside))
+      by-verdict (Refused r) e = refused-nothing o (move p q) x r e
 
   -- "No move changes a byte outside the fields"
   pub move-outside : (p q : Plan) (x : List ℕ) (k : ℕ) → All (λ e. (k < e .field .offset) ⊎ (e .field .offset + bytesIn (e .field .kind) ≤ k)) (o .entries)

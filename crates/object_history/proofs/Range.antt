@@ -3,10 +3,10 @@ use mathlib.Core.Path.{_≡_, refl, sym, _∙_, ap, ap₂}
 use mathlib.Core.Logic.{_⊎_, inl, inr, ⊎-swap, ⊎-elim}
 use mathlib.Core.Bool.{Bool, true, false, cond, not, _&&_}
 use mathlib.Core.List.{List, [], _∷_}
-use Prim.Native.Nat.{ℕ, _+_, _%_, _≤_, _<_}
+use Prim.Native.Nat.{ℕ, _+_, _/_, _%_, _≤_, _<_}
 use native.Mathlib.Nat.{mod-eq-of-lt}
 use native.Mathlib.Omega.{arith}
-use lib.Dec.{eqb}
+use lib.Dec.{lit<, eqb}
 use lib.ListN.{length}
 use lib.IntN.{ℤ, pos, _+ℤ_, +ℤ-assoc, +ℤ-comm, +ℤ-idr, +ℤ-idl}
 use borrow.Author.Tests.{eq-eqb, ne-eqb, not-false}
@@ -16,7 +16,8 @@ use Rattle.refusal.specs.declared.Verdict.{Verdict}
 use Rattle.refusal.specs.declared.Verdict.the-variants.{Accepted}
 use Rattle.refusal.specs.Order.{_orElse_, refuseIf}
 use Rattle.refusal.proofs.Order.{accepted-first, accepted-rest, accepted-test}
-use Rattle.update.specs.Update.{update, Apart}
+use Rattle.update.specs.Update.{update, remainder, Apart}
+use Rattle.update.proofs.Remainder.{remainder-lt}
 use Rattle.update.proofs.Laws.{field-put, field-apart}
 use Rattle.book.specs.Machine.{Shifts, unshifted, sum}
 use Rattle.book.specs.Entries.{All, Pairwise}
@@ -88,6 +89,30 @@ word-after off (g ∷ es) s x c i =
         ∙ ap (λ (z : ℤ). rem (pos (fieldAt 4 off x) +ℤ z)) (sym (+ℤ-idl rest))
         ∙ ap (λ (t : Bool). rem (pos (fieldAt 4 off x) +ℤ (cond t a (pos 0) +ℤ rest))) (sym (on-apart off (g .field .offset) (g .field .kind) h))
 
+-- the word's high six bits stay
+high-kept : (a : ℤ) (v : ℕ) → addLow a v / branchLimit % 64 ≡ v / branchLimit % 64
+unfolding addLow
+high-kept a v =
+    let l : remainder (pos v +ℤ a) branchLimit < branchLimit = remainder-lt branchLimit (lit< tt) (pos v +ℤ a) in
+    omega arith
+
+high-after : (off : ℕ) (es : List ObjectEntry) (s : Shifts) (x : List ℕ) → All (λ g. (branchAt off ≡ g .field) ⊎ FieldsApart (branchAt off) (g .field)) es → off + 4 ≤ length x
+    → fieldAt 4 off (applyAll es s x) / branchLimit % 64 ≡ fieldAt 4 off x / branchLimit % 64
+unfolding applyAll
+high-after off [] s x c i = refl
+high-after off (g ∷ es) s x c i =
+    high-after off es s (addTo (g .field) (amountOf g s) x) (c .1) (rw (length-addTo (g .field) (amountOf g s) x) i) ∙ by-place (c .0)
+  where
+    a : ℤ
+    a = amountOf g s
+
+    by-place : (branchAt off ≡ g .field) ⊎ FieldsApart (branchAt off) (g .field)
+        → fieldAt 4 off (addTo (g .field) a x) / branchLimit % 64 ≡ fieldAt 4 off x / branchLimit % 64
+    by-place (inl q) =
+        ap (λ (k : ℕ). k / branchLimit % 64) (ap (λ (f : ObjectField). fieldAt 4 off (addTo f a x)) (sym q) ∙ word-same off a x i)
+        ∙ high-kept a (fieldAt 4 off x)
+    by-place (inr h) = ap (λ (k : ℕ). k / branchLimit % 64) (word-apart off (g .field) a x h)
+
 -- ---- sums of amounts
 
 swap-add : (a b c d : ℤ) → (a +ℤ b) +ℤ (c +ℤ d) ≡ (a +ℤ c) +ℤ (b +ℤ d)
@@ -128,10 +153,11 @@ is-branch Eight h = cc
 is-branch Branch h = refl
 
 module _ (es : List ObjectEntry) (s : Shifts) (x : List ℕ) where
-  -- the branch word of an entry before and after the entries are applied: the exact sum is its value, and the bottom two bits stay
+  -- the branch word of an entry before and after the entries are applied: the exact sum is its value, and the other six and two bits stay
   pub record Kept (e : ObjectEntry) : Type 0 where
     pub exact : branchValue (fieldAt 4 (e .field .offset) (applyAll es s x)) ≡ branchSum es s x (e .field .offset)
     pub bottom : fieldAt 4 (e .field .offset) (applyAll es s x) % 4 ≡ fieldAt 4 (e .field .offset) x % 4
+    pub high : fieldAt 4 (e .field .offset) (applyAll es s x) / branchLimit % 64 ≡ fieldAt 4 (e .field .offset) x / branchLimit % 64
 
   compatible-branch : (e : ObjectEntry) (f : ObjectField) → e .field ≡ f → (ds : List ObjectEntry) → All (Compatible e) ds
       → All (λ g. (f ≡ g .field) ⊎ FieldsApart f (g .field)) ds
@@ -146,11 +172,13 @@ module _ (es : List ObjectEntry) (s : Shifts) (x : List ℕ) where
   kept e c i b h =
       let k : e .field .kind ≡ Branch = is-branch (e .field .kind) b in
       let off : ℕ = e .field .offset in
-      let w = word-after off es s x (compatible-branch e (branchAt off) (field-branch (e .field) k) es c) (inside-branch e k i) in
+      let d = compatible-branch e (branchAt off) (field-branch (e .field) k) es c in
+      let w = word-after off es s x d (inside-branch e k i) in
       let r : inRange (branchSum es s x off) ≡ true = not-false _ (rw b at h) in
       record {
         exact = value-exact (fieldAt 4 off x) (fieldAt 4 off (applyAll es s x)) (amountsOn off es s) w (rw branch-sum at r) ∙ sym branch-sum;
         bottom = bottom-kept (fieldAt 4 off x) (fieldAt 4 off (applyAll es s x)) (amountsOn off es s) w (rw branch-sum at r);
+        high = high-after off es s x d (inside-branch e k i);
       }
     where
       branch-sum : branchSum es s x (e .field .offset) ≡ branchValue (fieldAt 4 (e .field .offset) x) +ℤ amountsOn (e .field .offset) es s

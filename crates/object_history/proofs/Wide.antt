@@ -18,7 +18,7 @@ use Rattle.object_history.specs.Range.{isOn, amountsOn, branchSum}
 
 module _ (s : Shifts) (bound : ℕ) (small : (k : ℕ) → natAbs (s k) ≤ bound) where
   -- of an entry's amount
-  abs-amount : (k : AmountKind) (a b : ℕ) → natAbs (amountBy k (s a) (s b)) ≤ bound + bound
+  pub abs-amount : (k : AmountKind) (a b : ℕ) → natAbs (amountBy k (s a) (s b)) ≤ bound + bound
   abs-amount Plus a b = omega (arith, small a)
   abs-amount Minus a b = omega (arith, small a, abs-neg (s a))
   abs-amount Relative a b = omega (arith, small a, small b, abs-neg (s b), abs-add (s a) (negℤ (s b)))

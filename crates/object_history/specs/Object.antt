@@ -1,5 +1,6 @@
 -- An object file as builds and moves see it, and plans.
-use mathlib.Core.Bool.{Bool, not, cond, false, _&&_}
+use mathlib.Core.Path.{_≡_}
+use mathlib.Core.Bool.{Bool, not, cond, true, false, _&&_}
 use mathlib.Core.List.{List}
 use Prim.Native.Nat.{ℕ, zero, suc, _+_}
 use lib.Dec.{eqb, ltb, leb}
@@ -52,6 +53,10 @@ displacements o p (suc k) = moveOf (sectionOf o k) (getD p k 0)
 -- what the displacements of q are more than those of p
 unfoldable pub differences : Object → Plan → Plan → Shifts
 differences o p q = difference (displacements o p) (displacements o q)
+
+-- plans that give each section with a place in them the same address: all others are ignored
+pub record SamePlan (o : Object) (p q : Plan) : Type 0 where
+  pub addresses : (k : ℕ) → sectionOf o k .placed ≡ true → getD p k 0 ≡ getD q k 0
 
 -- the raw bytes with each entry applied in order
 unfoldable pub builtImage : Object → Plan → List ℕ

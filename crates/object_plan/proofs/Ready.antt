@@ -1,7 +1,6 @@
 -- What an accepted object file leaves known. Assumes nothing.
 use Prim.Native.Nat.{ℕ, _+_, _≤_, _<_}
 use mathlib.Core.Path.{_≡_, refl, sym, _∙_, ap}
-use mathlib.Core.Bool.{Bool, true, false, cond}
 use mathlib.Core.List.{List, []}
 use native.Mathlib.Omega.{arith}
 use lib.ListN.{length}
@@ -14,13 +13,11 @@ use Rattle.header.specs.Inside.{Inside}
 use Rattle.header.specs.Open.{openOf}
 use Rattle.symbol.specs.declared.Tables.{Tables}
 use Rattle.symbol.specs.Entry.{tablesOf}
-use Rattle.table_kind.specs.declared.TableKind.the-variants.{Relocations}
-use Rattle.section_tables.specs.Tables.{tableOf}
 use Rattle.section_relocation.specs.declared.ObjectSection.{ObjectSection}
 use Rattle.section_entries.specs.Entries.{entriesCheck}
-use Rattle.object.specs.Sections.{isHeldKind, sectionAt, numberAt, tableOr, heldPart, emptyPart, partAt, bytesBefore, entriesBefore, objectSection}
+use Rattle.object.specs.Sections.{bytesBefore, entriesBefore, objectSection}
 use Rattle.object.specs.Check.{Ready, SectionsReady, sectionsCheck, tableCheck, tablesCheck, objectIn, objectCheck}
-use Rattle.object.proofs.Sections.{ready-inside, sections-entries}
+use Rattle.object.proofs.Sections.{part-number, ready-inside, sections-entries}
 use Rattle.object.proofs.Answer.{sections-ready}
 use Rattle.object_history.specs.declared.ObjectEntry.{ObjectEntry}
 use Rattle.object_history.specs.Object.{Object, Placed}
@@ -33,14 +30,6 @@ object-ready file {y} r e h = record { sections = sections-ready file r e h; tab
   where
     from : objectIn file y ≡ verdict.Accepted → tablesCheck file y ≡ verdict.Accepted
     from q = unfold objectIn in accepted-rest (sectionsCheck (length file) y) (tablesCheck file y) q
-
-part-number : (len : ℕ) (y : Summary) (k place first : ℕ) → partAt len y k place first .number ≡ numberAt k
-unfolding partAt
-part-number len y k place first = by (isHeldKind (sectionAt y k .kind))
-  where
-    by : (b : Bool) → cond b (heldPart (sectionAt y k) (numberAt k) (tableOr (tableOf Relocations y len (numberAt k))) place first) (emptyPart (numberAt k) place first) .number ≡ numberAt k
-    by true = refl
-    by false = refl
 
 module _ (file : List ℕ) (y : Summary) (t : Tables) (r : ObjectReady file y t) where
   inside : Inside file y

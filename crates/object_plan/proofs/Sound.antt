@@ -44,11 +44,11 @@ use Rattle.object_plan.specs.Object.{entriesFrom, tableEntries, entriesI
 
 -- ---- lists, one after the other
 
-all-append : (P : ObjectEntry → Type 0) (xs ys : List ObjectEntry) → All P xs → All P ys → All P (xs ++ ys)
+pub all-append : (P : ObjectEntry → Type 0) (xs ys : List ObjectEntry) → All P xs → All P ys → All P (xs ++ ys)
 all-append P [] ys a b = b
 all-append P (x ∷ xs) ys a b = (a .0, all-append P xs ys (a .1) b)
 
-all-map : {P Q : ObjectEntry → Type 0} → ((e : ObjectEntry) → P e → Q e) → (es : List ObjectEntry) → All P es → All Q es
+pub all-map : {P Q : ObjectEntry → Type 0} → ((e : ObjectEntry) → P e → Q e) → (es : List ObjectEntry) → All P es → All Q es
 all-map h [] a = tt
 all-map h (e ∷ es) a = (h e (a .0), all-map h es (a .1))
 
@@ -104,7 +104,7 @@ module _ (file : List ℕ) (t : Tables) (s : ObjectSection) (good : entriesCheck
   abbrev fieldAt : ℕ → ObjectField
   fieldAt i = objectEntry file t s i .field
 
-  entry-between : (i : ℕ) → i < s .count → Between (s .place) (s .place + s .size) (fieldAt i)
+  pub entry-between : (i : ℕ) → i < s .count → Between (s .place) (s .place + s .size) (fieldAt i)
   entry-between i l = rw (entry-field file t s i) (record { from = h .from; upto = h .upto; none = none })
     where
       h : FieldIn s (fieldIn file (t .format) s i)
@@ -114,7 +114,7 @@ module _ (file : List ℕ) (t : Tables) (s : ObjectSection) (good : entriesCheck
       none = unfold fieldIn fieldOf in
           (λ e. field-none (t .format) s (entryIn file (t .format) s i .address .0) (effectOr (effectOf (t .format) (entryIn file (t .format) s i)) .kind) (unfold fieldBy in e))
 
-  from-between : (i n : ℕ) → i + n ≤ s .count → All (λ e. Between (s .place) (s .place + s .size) (e .field)) (entriesFrom file t s i n)
+  pub from-between : (i n : ℕ) → i + n ≤ s .count → All (λ e. Between (s .place) (s .place + s .size) (e .field)) (entriesFrom file t s i n)
   unfolding entriesFrom
   from-between i zero h = tt
   from-between i (suc n) h = (entry-between i (omega arith), from-between (suc i) n (omega arith))
@@ -143,7 +143,7 @@ module _ (file : List ℕ) (y : Summary) (inside : Inside file y) (sections : se
   abbrev before : ℕ → ℕ
   before k = bytesBefore (length file) y k
 
-  table-good : (k : ℕ) → k < y .count → entriesCheck file (tablesOf file y) (part k) ≡ verdict.Accepted
+  pub table-good : (k : ℕ) → k < y .count → entriesCheck file (tablesOf file y) (part k) ≡ verdict.Accepted
   table-good k l = from (each tables)
     where
       each : tablesCheck file y ≡ verdict.Accepted → tableCheck file y k ≡ verdict.Accepted
@@ -152,16 +152,16 @@ module _ (file : List ℕ) (y : Summary) (inside : Inside file y) (sections : se
       from : tableCheck file y k ≡ verdict.Accepted → entriesCheck file (tablesOf file y) (part k) ≡ verdict.Accepted
       from e = unfold tableCheck in e
 
-  ends : (k : ℕ) → part k .place + part k .size ≡ before (suc k)
+  pub ends : (k : ℕ) → part k .place + part k .size ≡ before (suc k)
   ends k = ap (λ (n : ℕ). n + part k .size) (part-place (length file) y k (before k) (entriesBefore (length file) y k)) ∙ sym (bytes-more (length file) y k)
 
-  grows : (k n : ℕ) → before k ≤ before (k + n)
+  pub grows : (k n : ℕ) → before k ≤ before (k + n)
   grows k zero = omega (arith, ap before (let e : k + 0 ≡ k = omega arith in e))
   grows k (suc n) =
       omega (arith, grows k n, bytes-more (length file) y (k + n), ap before (let e : k + suc n ≡ suc (k + n) = omega arith in e))
 
   -- the entries of sections k to k + n are among their bytes
-  in-between : (k n : ℕ) → k + n ≤ y .count → All (λ e. Between (before k) (before (k + n)) (e .field)) (entriesIn file y k n)
+  pub in-between : (k n : ℕ) → k + n ≤ y .count → All (λ e. Between (before k) (before (k + n)) (e .field)) (entriesIn file y k n)
   unfolding entriesIn
   in-between k zero h = tt
   in-between k (suc n) h =
@@ -187,7 +187,7 @@ module _ (file : List ℕ) (y : Summary) (inside : Inside file y) (sections : se
       (from-between file (tablesOf file y) (part k) (table-good k (omega arith)) 0 (part k .count) (omega arith)))
 
   -- the raw bytes are as many as the sections have
-  raw-one : (k : ℕ) → k < y .count → length (rawOf file (part k)) ≡ part k .size
+  pub raw-one : (k : ℕ) → k < y .count → length (rawOf file (part k)) ≡ part k .size
   raw-one k l = by (decLt 0 (part k .size))
     where
       by : Dec (0 < part k .size) → length (rawOf file (part k)) ≡ part k .size
@@ -203,9 +203,16 @@ module _ (file : List ℕ) (y : Summary) (inside : Inside file y) (sections : se
       let e : suc k + n ≡ k + suc n = omega arith in
       omega (arith, length-append (rawOf file (part k)) (rawIn file y (suc k) n), raw-one k (omega arith), raw-length (suc k) n (omega arith), bytes-more (length file) y k, ap before e)
 
-  raw-whole : length (rawIn file y 0 (y .count)) ≡ before (y .count)
+  -- in all as many as the first sections, all of them, give the buffer
+  pub raw-whole : length (rawIn file y 0 (y .count)) ≡ before (y .count)
   unfolding bytesBefore
   raw-whole = (let z : before 0 ≡ 0 = refl in let e : 0 + y .count ≡ y .count = omega arith in omega (arith, raw-length 0 (y .count) (omega arith), ap before e))
+
+  -- each section has its bytes among them
+  pub part-inside : (k : ℕ) → k < y .count → part k .place + part k .size ≤ length (rawIn file y 0 (y .count))
+  part-inside k l =
+      let e : suc k + (y .count - suc k) ≡ y .count = omega arith in
+      omega (arith, ends k, raw-whole, grows (suc k) (y .count - suc k), ap before e)
 
   pub all-inside : All (history.Inside (rawIn file y 0 (y .count))) (entriesIn file y 0 (y .count))
   all-inside =

@@ -31,19 +31,19 @@ use Rattle.image.specs.Report.{reportOfCall}
 abbrev Placeless : Refusal → Type 0
 Placeless x = (a b : List ℕ) → offsetOf a x ≡ offsetOf b x
 
-plan-at : (s : StartsAnswer) (i : PlanItem) → offsetBy s (refusal.Plan i) ≡ 0
-plan-at Unknown i = refl
-plan-at (Known s) i = refl
+plan-at : (file : List ℕ) (s : StartsAnswer) (i : PlanItem) → offsetBy file s (refusal.Plan i) ≡ 0
+plan-at file Unknown i = refl
+plan-at file (Known s) i = refl
 
-room-at : (s : StartsAnswer) (i : RoomItem) → offsetBy s (refusal.Room i) ≡ 0
-room-at Unknown i = refl
-room-at (Known s) i = refl
+room-at : (file : List ℕ) (s : StartsAnswer) (i : RoomItem) → offsetBy file s (refusal.Room i) ≡ 0
+room-at file Unknown i = refl
+room-at file (Known s) i = refl
 
 plan-placeless : (i : PlanItem) → Placeless (refusal.Plan i)
-plan-placeless i a b = plan-at (startsOf a) i ∙ sym (plan-at (startsOf b) i)
+plan-placeless i a b = plan-at a (startsOf a) i ∙ sym (plan-at b (startsOf b) i)
 
 room-placeless : (i : RoomItem) → Placeless (refusal.Room i)
-room-placeless i a b = room-at (startsOf a) i ∙ sym (room-at (startsOf b) i)
+room-placeless i a b = room-at a (startsOf a) i ∙ sym (room-at b (startsOf b) i)
 
 -- so have all that a verdict gives
 abbrev Free : Verdict → Type 0

@@ -32,10 +32,10 @@ module _ (check : ℕ → Verdict) where
       (first-past n x (omega arith) (λ i l. none i (omega arith)) ∙ first-turn check n x (omega arith) (none x (omega arith)))
 
   -- the check x is the first that refuses
-  first-is : (n x : ℕ) → x < n → ((i : ℕ) → i < x → isRefused (check i) ≡ false) → isRefused (check x) ≡ true → firstOf check 0 n ≡ check x
+  pub first-is : (n x : ℕ) → x < n → ((i : ℕ) → i < x → isRefused (check i) ≡ false) → isRefused (check x) ≡ true → firstOf check 0 n ≡ check x
   first-is n x h none e = first-past n x (omega arith) none ∙ first-stop check n x h e
 
-  first-none : (n : ℕ) → ((i : ℕ) → i < n → isRefused (check i) ≡ false) → firstOf check 0 n ≡ Accepted
+  pub first-none : (n : ℕ) → ((i : ℕ) → i < n → isRefused (check i) ≡ false) → firstOf check 0 n ≡ Accepted
   first-none n none = first-past n n (omega arith) none ∙ first-end check n n (omega arith)
 
   -- a loop that looks for the first refusal: a turn, a refusal, its end

@@ -2,7 +2,7 @@
 
 use crate::bytes::{by, number};
 use crate::opening::{header_at, open, Summary, TEXT};
-use crate::section_table::{line_rows, TableFault};
+use crate::section_table::{table_rows, Table, TableFault};
 use crate::{refuse, refuse_at, Refusal, BOUNDS, GROUP, INDEX, NOLINE};
 
 /// An entry of a line table that has an address.
@@ -23,7 +23,7 @@ pub fn find_line(file: &[u8], n: u64, address: u64) -> Result<FoundLine, Refusal
     if !is_text(&summary, n) {
         return refuse(INDEX, n);
     }
-    let rows = match line_rows(file, &summary, n, entry_length(summary.bits)) {
+    let rows = match table_rows(file, &summary, n, Table::Lines, entry_length(summary.bits)) {
         Ok(rows) => rows,
         Err(_) => return refuse_at(BOUNDS, n, header_at(&summary, n)),
     };
@@ -65,7 +65,7 @@ pub fn line_table_fault(file: &[u8], n: u64) -> Option<TableFault> {
     if !is_text(&summary, n) {
         return None;
     }
-    line_rows(file, &summary, n, entry_length(summary.bits)).err()
+    table_rows(file, &summary, n, Table::Lines, entry_length(summary.bits)).err()
 }
 
 fn is_text(summary: &Summary, n: u64) -> bool {

@@ -4,7 +4,7 @@ use crate::bytes::{by, number, put, top};
 use crate::fields::{Fields, Sort};
 use crate::images::change;
 use crate::opening::{header_at, open, Section, Summary, BSS, DATA, TEXT};
-use crate::section_table::{relocation_rows, TableFault};
+use crate::section_table::{table_rows, Table, TableFault};
 use crate::symbols::read_entry;
 use crate::{refuse, refuse_at, Refusal, BOUNDS, LREL, MODULE, OVERLAP, PLAN, RANGE, ROOM};
 use std::collections::{BTreeMap, HashMap};
@@ -145,7 +145,7 @@ pub fn table_fault(file: &[u8]) -> Option<TableFault> {
     let summary = open(file).ok()?;
     let each = row_length(summary.bits);
     let mut numbers = text_and_data(&summary);
-    numbers.find_map(|n| relocation_rows(file, &summary, n, each).err())
+    numbers.find_map(|n| table_rows(file, &summary, n, Table::Relocations, each).err())
 }
 
 /// Builds the sections for a list of addresses.
@@ -249,7 +249,13 @@ fn read_tables(file: &[u8]) -> Result<Object, Refusal> {
         if section.size != 0 && section.raw.is_none() {
             return refuse(MODULE, 3);
         }
-        let rows = match relocation_rows(file, &summary, n, row_length(summary.bits)) {
+        let rows = match table_rows(
+            file,
+            &summary,
+            n,
+            Table::Relocations,
+            row_length(summary.bits),
+        ) {
             Ok(rows) => rows,
             Err(_) => return refuse_at(BOUNDS, n, header_at(&summary, n)),
         };

@@ -18,12 +18,11 @@ fn overflow_header(summary: &Summary, n: u64) -> Option<&Section> {
     }
 }
 
-/// How many rows a table of section `n` has whose header says `count`; `overflow`
-/// takes the count out of an overflow header. None where that isn't there exactly
-/// once.
-fn row_count(summary: &Summary, n: u64, count: u64, overflow: fn(&Section) -> u64) -> Option<u64> {
+/// How many rows a table of section `n` has whose header says `count`. None where an
+/// overflow header is needed and isn't there exactly once.
+fn row_count(summary: &Summary, n: u64, table: Table, count: u64) -> Option<u64> {
     if summary.bits == 32 && count == OVERFLOWED {
-        overflow_header(summary, n).map(overflow)
+        overflow_header(summary, n).map(|header| table.overflow_count(header))
     } else {
         Some(count)
     }
@@ -48,28 +47,40 @@ pub enum TableFault {
     End,
 }
 
-/// The relocation entries of section `n`, `each` bytes long.
-pub(crate) fn relocation_rows(
-    file: &[u8],
-    summary: &Summary,
-    n: u64,
-    each: usize,
-) -> Result<Range<usize>, TableFault> {
-    let section = &summary.sections[n as usize - 1];
-    let count = row_count(summary, n, section.nreloc, |overflow| overflow.paddr)
-        .ok_or(TableFault::Overflow)?;
-    rows(file, section.relptr, count, each).ok_or(TableFault::End)
+/// The tables that a section has of its own.
+#[derive(Clone, Copy)]
+pub(crate) enum Table {
+    Relocations,
+    Lines,
 }
 
-/// The line numbers of section `n`.
-pub(crate) fn line_rows(
+impl Table {
+    /// Where a section's header says that it starts, and how many rows it counts.
+    fn start_and_count(self, section: &Section) -> (u64, u64) {
+        match self {
+            Table::Relocations => (section.relptr, section.nreloc),
+            Table::Lines => (section.lnnoptr, section.nlnno),
+        }
+    }
+
+    /// What an overflow header counts.
+    fn overflow_count(self, header: &Section) -> u64 {
+        match self {
+            Table::Relocations => header.paddr,
+            Table::Lines => header.vaddr,
+        }
+    }
+}
+
+/// The rows of a table of section `n`, `each` bytes long.
+pub(crate) fn table_rows(
     file: &[u8],
     summary: &Summary,
     n: u64,
+    table: Table,
     each: usize,
 ) -> Result<Range<usize>, TableFault> {
-    let section = &summary.sections[n as usize - 1];
-    let count = row_count(summary, n, section.nlnno, |overflow| overflow.vaddr)
-        .ok_or(TableFault::Overflow)?;
-    rows(file, section.lnnoptr, count, each).ok_or(TableFault::End)
+    let (start, count) = table.start_and_count(&summary.sections[n as usize - 1]);
+    let count = row_count(summary, n, table, count).ok_or(TableFault::Overflow)?;
+    rows(file, start, count, each).ok_or(TableFault::End)
 }

@@ -1,7 +1,7 @@
 //! Request 5: object files, by hand and over made ones.
 
 use reference::bytes::{number, put};
-use reference::generate::make::{self, Part, Wish};
+use reference::generate::make::{self, Made, Part, Wish};
 use reference::generate::objects::fitting_list;
 use reference::generate::rng::Rng;
 use reference::generate::{case, Op};
@@ -242,18 +242,24 @@ fn made_objects_are_read_as_made() {
     assert!(entries > 20_000);
 }
 
+/// An object with some of everything, and what is drawn after it.
+fn rich_object(seed: u64) -> (Rng, Made) {
+    let mut rng = Rng::new(seed);
+    let wish = Wish {
+        rich: true,
+        ..Wish::default()
+    };
+    let made = make::linkable(&mut rng, &wish);
+    (rng, made)
+}
+
 /// Moves along a chain of lists give what a build for the last one gives; where a
 /// branch leaves the range, nothing changes.
 #[test]
 fn chains_of_moves() {
     let (mut whole, mut refused) = (0, 0);
     for seed in 0..3_000 {
-        let mut rng = Rng::new(seed);
-        let wish = Wish {
-            rich: true,
-            ..Wish::default()
-        };
-        let made = make::linkable(&mut rng, &wish);
+        let (mut rng, made) = rich_object(seed);
         let file = &made.bytes;
         let length = object(file).unwrap().length as usize;
         let mut buffer = rng.bytes(length);
@@ -313,12 +319,7 @@ fn the_book_equals_running_the_calls() {
 #[test]
 fn a_move_changes_nothing_outside_the_fields() {
     for seed in 0..3_000 {
-        let mut rng = Rng::new(seed);
-        let wish = Wish {
-            rich: true,
-            ..Wish::default()
-        };
-        let made = make::linkable(&mut rng, &wish);
+        let (mut rng, made) = rich_object(seed);
         let found = object(&made.bytes).unwrap();
         let mut mask = vec![0u8; found.length as usize];
         for entry in &found.entries {

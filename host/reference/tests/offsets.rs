@@ -1,23 +1,14 @@
 //! Request 4: the file offset of a refusal, for each sort of item.
 
 use reference::bytes::put;
-use reference::generate::make::{self, Head, Made, Part, Wish};
+use reference::generate::make::{self, Head, Made, Part};
 use reference::generate::plans::{buffers, fitting_plan};
 use reference::generate::rng::Rng;
 use reference::*;
 
 /// A module of each format with some of everything.
 fn modules() -> [Made; 2] {
-    [32, 64].map(|bits| {
-        let wish = Wish {
-            bits: Some(bits),
-            rich: true,
-            low: true,
-            kinds: vec![opening::INFO],
-            ..Wish::default()
-        };
-        make::module(&mut Rng::new(4), &wish)
-    })
+    make::both_formats(|_| ())
 }
 
 fn triple<T>(result: Result<T, Refusal>) -> (u64, u64, u64) {

@@ -5,6 +5,7 @@ use std::fs;
 use std::path::{Path, PathBuf};
 use std::process::{Command, Output, Stdio};
 use std::sync::atomic::{AtomicUsize, Ordering};
+use xcoff::{module, section};
 
 /// A folder for one test, removed at its end.
 pub struct Folder(PathBuf);
@@ -123,6 +124,53 @@ pub fn real(name: &str) -> Vec<u8> {
     let mut paths = folders.iter().map(|f| tests_folder().join(f).join(name));
     let path = paths.find(|p| p.is_file());
     fs::read(path.unwrap_or_else(|| panic!("no real file {name}"))).unwrap()
+}
+
+/// The first module of each pair that GNU ld linked at two places; the other one has `.b-` for `.a-`.
+pub fn pairs() -> Vec<String> {
+    let entries = fs::read_dir(tests_folder().join("pairs")).unwrap();
+    let names = entries.map(|e| e.unwrap().file_name().into_string().unwrap());
+    let mut names: Vec<String> = names.filter(|name| name.contains(".a-")).collect();
+    names.sort();
+    assert!(names.len() >= 34, "{} pairs", names.len());
+    names
+}
+
+/// ld keeps no loader entries for the read-only text of this pair: its data agrees, its text does not.
+pub fn has_fixed_text(name: &str) -> bool {
+    name.starts_with("rotext")
+}
+
+/// The images that ld wrote: the raw bytes of text and data, then zeros.
+pub fn linked_images(file: &[u8]) -> (Vec<u8>, Vec<u8>) {
+    let m = module(file).unwrap();
+    let raw = |n, length: u64| {
+        let s = section(file, n).unwrap();
+        let bytes = s.scnptr as usize..(s.scnptr + s.size) as usize;
+        let mut image = if s.raw {
+            file[bytes].to_vec()
+        } else {
+            Vec::new()
+        };
+        image.resize(length as usize, 0);
+        image
+    };
+    (raw(m.text.number, m.text.size), raw(m.data.number, m.image))
+}
+
+/// The arguments that make the sheet `s` of a module for two addresses, imports as recorded.
+pub fn recorded<'a>(module: &'a str, text: &'a str, data: &'a str) -> [&'a str; 9] {
+    [
+        "plan",
+        module,
+        "--recorded",
+        "--text",
+        text,
+        "--data",
+        data,
+        "-o",
+        "s",
+    ]
 }
 
 /// A plan sheet, written from its description and not by the library: counts of 4 bytes.

@@ -65,6 +65,21 @@ impl Module {
         }
     }
 
+    /// A field of 8 bytes for each list of entries, from an address of section 1 or 2 on; an entry by its symbol, and whether it
+    /// subtracts, which is one above the kind.
+    #[allow(dead_code)] // not every test has it
+    pub fn relocate(&mut self, section: u16, start: u64, kind: u16, fields: &[&[(u32, bool)]]) {
+        for (n, entries) in fields.iter().enumerate() {
+            self.entries
+                .extend(entries.iter().map(|&(symbol, subtracts)| Entry {
+                    address: start + 8 * n as u64,
+                    symbol,
+                    kind: kind + u16::from(subtracts),
+                    section,
+                }));
+        }
+    }
+
     /// The file.
     pub fn bytes(&self) -> Vec<u8> {
         let mut out = Writer {

@@ -1,7 +1,7 @@
 //! The address table of two benches, request 6: lists of calls, damages and accepted
 //! edges.
 
-use super::damage::{hurt, of_loader, rich_with, Hurt, Row};
+use super::damage::{hurt, of_loader, rich_with, row, Hurt, Row};
 use super::make::{Head, Made};
 use super::rng::Rng;
 use super::{Edge, Op};
@@ -9,10 +9,6 @@ use crate::{
     loader_symbols, RowKey, TableCall, ABSENT, FULL, INDEX, LOADER, LONG, ROOM, SHORT, TABLE_ROWS,
 };
 use TableCall::{Add, Fill, LookUp, Remove};
-
-const fn row(name: &'static str, number: u64, make: fn(&mut Rng) -> Option<Hurt>) -> Row {
-    Row { name, number, make }
-}
 
 pub static ROWS: &[Row] = &[
     row("table: bench", INDEX, |rng| {

@@ -1,16 +1,12 @@
 //! Debugger names, request 1: damages, and files at an accepted edge.
 
-use super::damage::{extra_section, hurt, rich_with, Hurt, Row};
+use super::damage::{extra_section, hurt, rich_with, row, Hurt, Row};
 use super::make::{Made, Part, DEBUG_CLASSES};
 use super::rng::Rng;
 use super::Op;
 use crate::bytes::put;
 use crate::opening::{DEBUG, DELETED, EXCEPT, INFO, TYPCHK};
 use crate::{AUX, NAME, SECTION};
-
-const fn row(name: &'static str, number: u64, make: fn(&mut Rng) -> Option<Hurt>) -> Row {
-    Row { name, number, make }
-}
 
 pub static ROWS: &[Row] = &[
     row("debug name without a debug section", NAME, |rng| {

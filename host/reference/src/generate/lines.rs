@@ -1,6 +1,6 @@
 //! From address to line, request 7: operations, damages and accepted edges.
 
-use super::damage::{hurt, Hurt, Row};
+use super::damage::{empty_table, far_offsets, hurt, row, Hurt, Row};
 use super::make::line_tables::function;
 use super::make::{self, top, Made, MadeLine, Part, Wish};
 use super::plans::near;
@@ -9,9 +9,8 @@ use super::{Edge, Op};
 use crate::opening::{BSS, DATA, DELETED, OVRFLO, TEXT};
 use crate::{Refusal, BOUNDS, GROUP, INDEX, NOLINE};
 
-const fn row(name: &'static str, number: u64, make: fn(&mut Rng) -> Option<Hurt>) -> Row {
-    Row { name, number, make }
-}
+/// A line table, in its section's header.
+const TABLE: [Part; 2] = [Part::LineCount, Part::LinePointer];
 
 pub static ROWS: &[Row] = &[
     row("line: no such section", INDEX, |rng| {
@@ -36,19 +35,15 @@ pub static ROWS: &[Row] = &[
         asked(rng, made, n, INDEX, n)
     }),
     row("line: table past the end", BOUNDS, |rng| {
-        let mut made = rich(rng);
-        let n = any_text(rng, &made);
-        past_the_end(rng, &mut made, n);
+        let (made, n) = text_with(rng, past_the_end);
         bounds(rng, made, n)
     }),
     row("line: empty table past the end", BOUNDS, |rng| {
-        let mut made = rich(rng);
-        let n = any_text(rng, &made);
-        let length = made.bytes.len() as u64;
-        let most = (top(made.bits) - 1) as u64;
-        made.put_part(n, Part::LineCount, 0);
-        let far = rng.pick(&[length + 1, length + 1, most, most / 2 + 1]);
-        made.put_part(n, Part::LinePointer, far);
+        let (made, n) = text_with(rng, |rng, made, n| {
+            let [near, _, most, half] = far_offsets(made);
+            let far = rng.pick(&[near, near, most, half]);
+            empty_table(made, n, TABLE, far);
+        });
         bounds(rng, made, n)
     }),
     row("line: no overflow header", BOUNDS, |rng| {
@@ -83,26 +78,22 @@ pub static ROWS: &[Row] = &[
         bounds(rng, made, n)
     }),
     row("line: group", GROUP, |rng| {
-        let mut made = rich(rng);
-        let n = any_text(rng, &made);
-        no_function(rng, &mut made, n);
-        let address = any_address(rng, &made, n);
-        find(made, n, address, GROUP)
+        let (made, n) = text_with(rng, no_function);
+        find_any(rng, made, n, GROUP)
     }),
     row("line: group before noline", GROUP, |rng| {
-        let mut made = rich(rng);
-        let n = any_text(rng, &made);
-        for i in made.lines_of(n) {
-            let line = made.lines[i].line;
-            made.set_line(i, 0x5000 + i as u64, line);
-        }
-        no_function(rng, &mut made, n);
+        let (made, n) = text_with(rng, |rng, made, n| {
+            for i in made.lines_of(n) {
+                let line = made.lines[i].line;
+                made.set_line(i, 0x5000 + i as u64, line);
+            }
+            no_function(rng, made, n);
+        });
         let address = rng.pick(&[0, 0x1000, 0x4FFF]);
         find(made, n, address, GROUP)
     }),
     row("line: noline", NOLINE, |rng| {
-        let mut made = rich(rng);
-        let n = any_text(rng, &made);
+        let (mut made, n) = text_with(rng, |_, _, _| ());
         let lowest = rng.between(1, 0xFFFF_FF00);
         for i in made.lines_of(n) {
             // A function's value is no address.
@@ -115,23 +106,21 @@ pub static ROWS: &[Row] = &[
         find(made, n, address, NOLINE)
     }),
     row("line: noline without entries", NOLINE, |rng| {
-        let mut made = rich(rng);
-        let n = any_text(rng, &made);
-        made.put_part(n, Part::LineCount, 0);
-        let length = made.bytes.len() as u64;
-        made.put_part(n, Part::LinePointer, rng.pick(&[0, 1, length, length]));
-        let address = any_address(rng, &made, n);
-        find(made, n, address, NOLINE)
+        let (made, n) = text_with(rng, |rng, made, n| {
+            let length = made.bytes.len() as u64;
+            let start = rng.pick(&[0, 1, length, length]);
+            empty_table(made, n, TABLE, start);
+        });
+        find_any(rng, made, n, NOLINE)
     }),
     row("line: noline of functions alone", NOLINE, |rng| {
-        let mut made = rich(rng);
-        let n = any_text(rng, &made);
-        for i in made.lines_of(n) {
-            let value = rng.pick(&[0, made.lines[i].value]);
-            made.set_line(i, value, 0);
-        }
-        let address = any_address(rng, &made, n);
-        find(made, n, address, NOLINE)
+        let (made, n) = text_with(rng, |rng, made, n| {
+            for i in made.lines_of(n) {
+                let value = rng.pick(&[0, made.lines[i].value]);
+                made.set_line(i, value, 0);
+            }
+        });
+        find_any(rng, made, n, NOLINE)
     }),
 ];
 
@@ -152,6 +141,14 @@ fn rich_with(rng: &mut Rng, change: fn(&mut Wish)) -> Made {
 
 fn any_text(rng: &mut Rng, made: &Made) -> u64 {
     rng.pick(&made.sections_of(&[TEXT]))
+}
+
+/// An object with lines and one of its text sections, changed.
+fn text_with(rng: &mut Rng, change: fn(&mut Rng, &mut Made, u64)) -> (Made, u64) {
+    let mut made = rich(rng);
+    let n = any_text(rng, &made);
+    change(rng, &mut made, n);
+    (made, n)
 }
 
 /// An address of one of the section's lines, one beside it, or any.
@@ -191,6 +188,11 @@ fn find(made: Made, n: u64, address: u64, number: u64) -> Option<Hurt> {
         number,
         0,
     )
+}
+
+fn find_any(rng: &mut Rng, made: Made, n: u64, number: u64) -> Option<Hurt> {
+    let address = any_address(rng, &made, n);
+    find(made, n, address, number)
 }
 
 fn bounds(rng: &mut Rng, made: Made, n: u64) -> Option<Hurt> {

@@ -25,6 +25,7 @@ pub use places::{
 
 use super::rng::Rng;
 use crate::bytes::by;
+use crate::opening::INFO;
 use assemble::assemble;
 use aux_header::aux_header;
 use debug::debug_section;
@@ -71,6 +72,21 @@ pub struct Wish {
     pub debug: bool,
     /// The auxiliary header's version, where it is long enough.
     pub version: Option<u64>,
+}
+
+/// A low module of each format with some of everything, for tests of places.
+pub fn both_formats(change: fn(&mut Wish)) -> [Made; 2] {
+    [32, 64].map(|bits| {
+        let mut wish = Wish {
+            bits: Some(bits),
+            rich: true,
+            low: true,
+            kinds: vec![INFO],
+            ..Wish::default()
+        };
+        change(&mut wish);
+        module(&mut Rng::new(4), &wish)
+    })
 }
 
 /// A valid module.

@@ -3,7 +3,7 @@
 mod layout;
 mod loader;
 
-use super::damage::{hurt, rich_with, spoil, wrong_length, Hurt, Row};
+use super::damage::{hurt, rich_with, row, spoil, wrong_length, Hurt, Row};
 use super::make::{self, Aux, Made, Part, Wish};
 use super::plans::{any_plan, fitting_plan};
 use super::rng::Rng;
@@ -14,10 +14,6 @@ use crate::rewrite::shared_parts;
 use crate::{PLAN, ROOM, SHARED};
 use layout::{laid_out, Piece};
 use loader::{over, rebuilt, Inner};
-
-const fn row(name: &'static str, number: u64, make: fn(&mut Rng) -> Option<Hurt>) -> Row {
-    Row { name, number, make }
-}
 
 pub static ROWS: &[Row] = &[
     row("write: room 2 list", ROOM, |rng| hurt_plan(rng, 0)),

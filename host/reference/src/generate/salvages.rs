@@ -1,7 +1,7 @@
 //! Salvage of damaged symbol tables, request 12: operations, damages and accepted
 //! edges.
 
-use super::damage::{hurt, rich_with, wrong_length, Hurt, Row};
+use super::damage::{hurt, rich_with, row, wrong_length, Hurt, Row};
 use super::make::{self, Made, Part, Wish, DEBUG_CLASSES};
 use super::rng::Rng;
 use super::{Edge, Op};
@@ -9,10 +9,6 @@ use crate::bytes::{number, put};
 use crate::opening::{DEBUG, DELETED, INFO};
 use crate::symbols::is_csect_class;
 use crate::{AUX, LIMIT, NAME, ROOM, SECTION, SHARED, VISIBILITY};
-
-const fn row(name: &'static str, number: u64, make: fn(&mut Rng) -> Option<Hurt>) -> Row {
-    Row { name, number, make }
-}
 
 pub static ROWS: &[Row] = &[
     row("salvage: symbols over headers", SHARED, |rng| {

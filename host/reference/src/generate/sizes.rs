@@ -1,16 +1,12 @@
 //! Limits and sheets, request 10: damages, and operations at an accepted edge.
 
-use super::damage::{good_sheet, hurt, junk_list, plain, Hurt, Row};
+use super::damage::{good_sheet, hurt, junk_list, plain, row, Hurt, Row};
 use super::make::{self, Made, Wish};
 use super::rng::Rng;
 use super::{Edge, Op};
 use crate::bytes::put;
 use crate::sheet::Form;
 use crate::{LIMIT, LOADER_SYMBOL_LIMIT, ROOM, SHEET};
-
-const fn row(name: &'static str, number: u64, make: fn(&mut Rng) -> Option<Hurt>) -> Row {
-    Row { name, number, make }
-}
 
 pub static ROWS: &[Row] = &[
     row("sheet of fewer than two bytes", SHEET, |rng| {

@@ -1,16 +1,12 @@
 //! Visibilities of symbols, request 9: damages, and files at an accepted edge.
 
-use super::damage::{csect_at, csect_where, hurt, Hurt, Row};
+use super::damage::{csect_at, csect_where, hurt, row, Hurt, Row};
 use super::make::{self, Made, Wish};
 use super::rng::Rng;
 use super::Op;
 use crate::bytes::{number, put};
 use crate::symbols::{is_debug_class, LD};
 use crate::{AUX, CSECT, NAME, SECTION, VISIBILITY};
-
-const fn row(name: &'static str, number: u64, make: fn(&mut Rng) -> Option<Hurt>) -> Row {
-    Row { name, number, make }
-}
 
 pub static ROWS: &[Row] = &[
     row("visibility 5 to 7", VISIBILITY, |rng| {

@@ -2,7 +2,7 @@
 
 use super::branches::{self, Aim};
 use super::{buffer, fitting_list, has_address, rich, rich_with, section_size};
-use crate::generate::damage::{hurt, wrong_length, Hurt, Row};
+use crate::generate::damage::{empty_table, far_offsets, hurt, row, wrong_length, Hurt, Row};
 use crate::generate::make::linkable::{overflow, Sort};
 use crate::generate::make::{top, Made, Part, RowPart};
 use crate::generate::plans::past_end;
@@ -10,10 +10,6 @@ use crate::generate::rng::Rng;
 use crate::generate::Op;
 use crate::opening::{BSS, DATA, DELETED, OVRFLO, TEXT};
 use crate::*;
-
-const fn row(name: &'static str, number: u64, make: fn(&mut Rng) -> Option<Hurt>) -> Row {
-    Row { name, number, make }
-}
 
 pub static ROWS: &[Row] = &[
     row("object: module 3", MODULE, |rng| {
@@ -39,11 +35,10 @@ pub static ROWS: &[Row] = &[
     row("object: empty table past the end", BOUNDS, |rng| {
         let mut made = rich(rng);
         let n = any_table(rng, &made);
-        let length = made.bytes.len() as u64;
-        let most = (top(made.bits) - 1) as u64;
-        made.put_part(n, Part::RelocationCount, 0);
-        let far = rng.pick(&[length + 1, length + 1, length + 2, most, most / 2 + 1]);
-        made.put_part(n, Part::RelocationPointer, far);
+        let [near, next, most, half] = far_offsets(&made);
+        let far = rng.pick(&[near, near, next, most, half]);
+        let table = [Part::RelocationCount, Part::RelocationPointer];
+        empty_table(&mut made, n, table, far);
         bounds(rng, made, n)
     }),
     row("object: bounds before a later module 3", BOUNDS, |rng| {
@@ -222,29 +217,23 @@ pub static ROWS: &[Row] = &[
         meet(rng, made, later, address)
     }),
     row("object: branch and plain on one field", OVERLAP, |rng| {
-        let mut made = rich(rng);
+        let made = rich(rng);
         let (earlier, later) = two_rows(rng, &made)?;
         let sort = match sort_of(&made, earlier)? {
             Sort::Branch => Sort::Narrow,
             Sort::Narrow => Sort::Branch,
             Sort::Wide => return None,
         };
-        made.set_row(later, RowPart::Size, sort.size(rng));
-        made.set_row(later, RowPart::Kind, sort.kind(rng));
-        let address = made.rows[earlier].address.into();
-        meet(rng, made, later, address)
+        meet_as(rng, made, earlier, later, sort)
     }),
     row("object: wide and narrow on one field", OVERLAP, |rng| {
-        let mut made = rich_with(rng, |wish| wish.bits = Some(64));
+        let made = rich_with(rng, |wish| wish.bits = Some(64));
         let (earlier, later) = two_rows(rng, &made)?;
         let sort = match sort_of(&made, earlier)? {
             Sort::Wide => rng.pick(&[Sort::Narrow, Sort::Branch]),
             _ => Sort::Wide,
         };
-        made.set_row(later, RowPart::Size, sort.size(rng));
-        made.set_row(later, RowPart::Kind, sort.kind(rng));
-        let address = made.rows[earlier].address.into();
-        meet(rng, made, later, address)
+        meet_as(rng, made, earlier, later, sort)
     }),
     row("object: room 2 list", ROOM, |rng| hurt_call(rng, 0)),
     row("object: plan text", PLAN, |rng| hurt_call(rng, 1)),
@@ -426,6 +415,20 @@ fn meet(rng: &mut Rng, mut made: Made, later: usize, address: u128) -> Option<Hu
     made.set_row(later, RowPart::Address, address as u64);
     let at = made.rows[later].at;
     refused(rng, made, OVERLAP, later as u64, at)
+}
+
+/// The same at the earlier one's own address, with a field of this sort.
+fn meet_as(
+    rng: &mut Rng,
+    mut made: Made,
+    earlier: usize,
+    later: usize,
+    sort: Sort,
+) -> Option<Hurt> {
+    made.set_row(later, RowPart::Size, sort.size(rng));
+    made.set_row(later, RowPart::Kind, sort.kind(rng));
+    let address = made.rows[earlier].address.into();
+    meet(rng, made, later, address)
 }
 
 /// Spoils a symbol that rows name: the first of these is given.

@@ -2,16 +2,12 @@
 
 use super::lines::*;
 use super::{clash, clear_plan, length};
-use crate::generate::damage::{hurt, rich_with, spoil, wrong_length, Hurt, Row};
+use crate::generate::damage::{hurt, rich_with, row, spoil, wrong_length, Hurt, Row};
 use crate::generate::make::{self, Made, Wish};
 use crate::generate::plans::{buffers, fitting_plan};
 use crate::generate::rng::Rng;
 use crate::generate::Op;
 use crate::*;
-
-const fn row(name: &'static str, number: u64, make: fn(&mut Rng) -> Option<Hurt>) -> Row {
-    Row { name, number, make }
-}
 
 pub static ROWS: &[Row] = &[
     // In the order of the checks: some of these, and the first is given.

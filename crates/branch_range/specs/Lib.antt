@@ -1,0 +1,3 @@
+-- What the contracts of `branch_range` cite.
+pub mod Range
+pub mod Cells

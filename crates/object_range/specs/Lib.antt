@@ -1,0 +1,2 @@
+-- What the contracts of `object_range` cite.
+pub mod Sections

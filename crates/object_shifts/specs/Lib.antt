@@ -1,0 +1,2 @@
+-- What the contracts of `object_shifts` cite.
+pub mod Places

@@ -1,0 +1,3 @@
+-- Laws of the listings of an object file.
+pub mod Answers
+pub mod Parts

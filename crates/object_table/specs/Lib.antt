@@ -1,0 +1,2 @@
+-- What the contracts of `object_table` cite.
+pub mod Table
