@@ -159,16 +159,17 @@ impl<'w> Listing<'w> {
     }
 
     fn json_row(&mut self, cells: &[Cell]) {
-        push(
-            &mut self.line,
-            format_args!("{{\"table\":\"{}\"", self.table),
-        );
+        for text in ["{\"table\":\"", self.table, "\""] {
+            self.line.push_str(text);
+        }
         if let Some(file) = self.file {
             self.line.push_str(",\"file\":");
             push_json_text(&mut self.line, &escape::argument(file));
         }
         for (column, cell) in self.columns.iter().zip(cells) {
-            push(&mut self.line, format_args!(",\"{}\":", column.name));
+            for text in [",\"", column.name, "\":"] {
+                self.line.push_str(text);
+            }
             push_json(&mut self.line, column, cell);
         }
         self.line.push('}');
@@ -256,14 +257,15 @@ fn push_signed(out: &mut String, value: i64) {
 
 /// A number in digits, at least so many: a listing has millions of them, and a format is read anew for each.
 pub fn push_digits<const BASE: u64>(out: &mut String, mut value: u64, least: usize) {
-    let mut digits = ['0'; 20];
+    let mut digits = [b'0'; 20];
     let mut first = digits.len();
     while value > 0 {
         first -= 1;
-        digits[first] = char::from(b"0123456789abcdef"[(value % BASE) as usize]);
+        digits[first] = b"0123456789abcdef"[(value % BASE) as usize];
         value /= BASE;
     }
-    out.extend(&digits[first.min(digits.len() - least)..]);
+    let shown = &digits[first.min(digits.len() - least)..];
+    out.push_str(std::str::from_utf8(shown).expect("digits are ASCII"));
 }
 
 /// A name's bytes as the characters U+0000 to U+00FF, and whether it is cut.
