@@ -88,7 +88,8 @@ pub fn object(file: &[u8]) -> Result<Object, Refusal> {
 
 /// Every section of an object file, in the order of the section headers.
 pub fn object_sections(file: &[u8]) -> Result<Vec<ObjectSection>, Refusal> {
-    let mut numbers = vec![0; SECTION * object(file)?.sections as usize];
+    // A file that does not open is refused here as it would be below; the entries are judged once.
+    let mut numbers = vec![0; SECTION * open(file)?.sections as usize];
     accepted(ffi::object_sections(file, &mut numbers))?;
     Ok(numbers.chunks_exact(SECTION).map(section_row).collect())
 }

@@ -103,15 +103,15 @@ fn move_ready(
     ensures cause { λ r. ⌜ r ≡ callCheck (objectOf (now (file .entry))) (length (now (buffer .entry))) (now (buffer .entry)) (move (now (from .entry)) (now (to .entry))) ⌝ }
     ensures image { λ _. ⌜ now (buffer .exit) ≡ effect (objectOf (now (file .entry))) (move (now (from .entry)) (now (to .entry))) (now (buffer .entry)) ⌝ }
 {
-    let v = check_plans(file, y, t, from, to, buffer.len() as u64);
-    if refusal::refuses(v) {
-        return v;
+    let a = check_plans(file, y, t, from, to, buffer.len() as u64);
+    if refusal::refuses(a) {
+        return a;
     }
     let new = object_shifts::plan_places(y, to);
     let old = object_shifts::plan_places(y, from);
-    let w = object_range::check_moved(file, y, t, &new, &old, buffer);
-    if refusal::refuses(w) {
-        return w;
+    let b = object_range::check_moved(file, y, t, &new, &old, buffer);
+    if refusal::refuses(b) {
+        return b;
     }
     object_apply::apply_entries(file, y, t, &new, &old, buffer);
     Verdict::Accepted

@@ -1,4 +1,5 @@
--- Laws of the listings of an object file, and what their refusals name.
+-- Laws of the listings of an object file: their answers, how much memory they need, and what their refusals name.
 pub mod Answers
 pub mod Parts
+pub mod Need
 pub mod Named
