@@ -3,30 +3,15 @@ use mathlib.Core.Path.{_≡_, refl, sym, _∙_, ap}
 use mathlib.Core.List.{List, [], _∷_, _++_, map, append-assoc}
 use Prim.Native.Nat.{ℕ, zero, suc, _+_, _-_, _%_, _≤_, _<_}
 use native.Mathlib.Omega.{arith}
-use native.Mathlib.Nat.{add-zero}
-use lib.ListN.{length, getD, take, drop, length-append, length-drop}
-use lib.Seq.{drop-drop, getD-drop, take-append-seam, drop-append-seam, getD-append-seam}
+use lib.ListN.{length, getD, drop, length-append}
+use lib.Seq.{take-append-seam, drop-append-seam}
+use Rattle.script.proofs.Encode.{from-getD, from-first, from-drop, from-length}
 use Rattle.update.specs.Update.{Bytes}
 use Rattle.address_book.specs.Book.{Key, key}
 use Rattle.address_book.specs.Call.{Places, Call, add, remove, look, fill, count, list}
 use Rattle.table_replay.specs.Script.{fixedOf, nameLength, callEnd, lowByte, bytesAt, keyAt, rowCall, callAt, callsFrom, callsOf, keyNumbers, callNumbers, encode, Asked, AllAsked}
 use Rattle.table_replay.proofs.Ends.{call-none, call-whole, row-name, no-name}
 use Rattle.table_replay.proofs.Calls.{calls-none, calls-more}
-
--- ---- a script by what it has from a place on
-
-module _ (s : List ℕ) (at : ℕ) (xs : List ℕ) (e : drop at s ≡ xs) where
-  from-getD : (k : ℕ) → getD s (at + k) 0 ≡ getD xs k 0
-  from-getD k = sym (getD-drop at s k 0) ∙ ap (λ (l : List ℕ). getD l k 0) e
-
-  from-first : getD s at 0 ≡ getD xs 0 0
-  from-first = ap (λ (k : ℕ). getD s k 0) (sym (add-zero at)) ∙ from-getD 0
-
-  from-drop : (k : ℕ) → drop (at + k) s ≡ drop k xs
-  from-drop k = sym (drop-drop k at s) ∙ ap (drop k) e
-
-  from-length : length s - at ≡ length xs
-  from-length = sym (length-drop at s) ∙ ap length e
 
 -- bytes are their own low bytes
 low-bytes : (l : List ℕ) → Bytes l → map lowByte l ≡ l
