@@ -1,6 +1,6 @@
 //! Images compared with those of a plan, and a move that looks before it moves.
 
-use crate::{build_images, module, move_images, relocation_table, Image, Plan, Reached, Refusal};
+use crate::{build_images, module, move_images, Image, Plan, Reached, Refusal};
 use std::collections::BTreeSet;
 use std::fmt;
 
@@ -37,7 +37,7 @@ pub fn check_images(
     let m = module(file)?;
     let mut built = (vec![0; m.text.size as usize], vec![0; m.image as usize]);
     build_images(file, plan, &mut built.0, &mut built.1)?;
-    let entries = relocation_table(file)?;
+    let entries = m.relocation_table(file)?;
     let fields: BTreeSet<(Image, u64, u64)> = entries
         .iter()
         .map(|entry| (entry.image, entry.offset, entry.width))

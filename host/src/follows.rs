@@ -1,7 +1,7 @@
 //! Which address of a plan a symbol follows. One address alone changes no byte but in fields with an entry whose symbol
 //! follows it.
 
-use crate::{loader_symbol_table, module, LoaderSymbol, Module, Plan, Refusal};
+use crate::{module, LoaderRow, LoaderSymbol, Module, Plan, Refusal};
 
 /// One address of a plan.
 #[derive(Clone, Copy, Debug, PartialEq, Eq, PartialOrd, Ord)]
@@ -39,12 +39,17 @@ impl PlanAddress {
 /// symbols. None: a deferred import, which follows no address.
 pub fn followed(file: &[u8]) -> Result<Vec<Option<PlanAddress>>, Refusal> {
     let module = module(file)?;
-    let symbols = loader_symbol_table(file)?;
-    let implicit = [PlanAddress::Text, PlanAddress::Data, PlanAddress::Data].map(Some);
-    let loader = symbols
-        .iter()
-        .map(|row| followed_by(&module, row.index, &row.symbol));
-    Ok(implicit.into_iter().chain(loader).collect())
+    Ok(module.followed(&module.loader_symbol_table(file)?))
+}
+
+impl Module {
+    /// The same of a module whose loader symbols are listed.
+    pub fn followed(&self, symbols: &[LoaderRow]) -> Vec<Option<PlanAddress>> {
+        let implicit = [PlanAddress::Text, PlanAddress::Data, PlanAddress::Data].map(Some);
+        let loader = symbols.iter();
+        let loader = loader.map(|row| followed_by(self, row.index, &row.symbol));
+        implicit.into_iter().chain(loader).collect()
+    }
 }
 
 fn followed_by(module: &Module, index: u64, symbol: &LoaderSymbol) -> Option<PlanAddress> {

@@ -4,8 +4,8 @@
 //! look-ups judges the file once for each of them.
 
 use crate::{
-    accepted, csect_type, ffi, module, visibility, walk, walk_of, Csect, LoaderSymbol, Refusal,
-    Symbol, Walk,
+    accepted, csect_type, ffi, module, visibility, walk, walk_of, Csect, LoaderSymbol, Module,
+    Refusal, Symbol, Walk,
 };
 
 /// Numbers in a row of each table.
@@ -84,33 +84,49 @@ pub fn symbol_table(file: &[u8]) -> Result<SymbolTable<'_>, Refusal> {
 
 /// Every loader symbol of a loadable module.
 pub fn loader_symbol_table(file: &[u8]) -> Result<Vec<LoaderRow<'_>>, Refusal> {
-    let mut numbers = vec![0; LOADER_SYMBOL * module(file)?.symbols as usize];
-    let answer = ffi::loader_symbol_table(file, &mut numbers);
-    accepted(answer)?;
-    let rows = numbers.chunks_exact(LOADER_SYMBOL);
-    Ok(rows.map(|row| loader_row(file, row)).collect())
+    module(file)?.loader_symbol_table(file)
 }
 
 /// Every relocation entry of a loadable module, in the order of the table.
 pub fn relocation_table(file: &[u8]) -> Result<Vec<Relocation>, Refusal> {
-    let mut numbers = vec![0; RELOCATION * module(file)?.relocations as usize];
-    let answer = ffi::relocation_table(file, &mut numbers);
-    accepted(answer)?;
-    Ok(numbers
-        .chunks_exact(RELOCATION)
-        .map(relocation_row)
-        .collect())
+    module(file)?.relocation_table(file)
 }
 
 /// Every import id of a loadable module.
 pub fn import_table(file: &[u8]) -> Result<ImportTable<'_>, Refusal> {
-    let mut numbers = vec![0; IMPORT * module(file)?.ids as usize];
-    let answer = ffi::import_table(file, &mut numbers);
-    accepted(answer)?;
-    Ok(ImportTable { file, numbers })
+    module(file)?.import_table(file)
+}
+
+/// Tables of the file that a module was read from, whose counts are known: the file is judged once for each. Of another file
+/// they are refused, most often for their lengths (20 ROOM).
+impl Module {
+    pub fn loader_symbol_table<'a>(&self, file: &'a [u8]) -> Result<Vec<LoaderRow<'a>>, Refusal> {
+        let mut numbers = vec![0; LOADER_SYMBOL * self.symbols as usize];
+        accepted(ffi::loader_symbol_table(file, &mut numbers))?;
+        let rows = numbers.chunks_exact(LOADER_SYMBOL);
+        Ok(rows.map(|row| loader_row(file, row)).collect())
+    }
+
+    pub fn relocation_table(&self, file: &[u8]) -> Result<Vec<Relocation>, Refusal> {
+        let mut numbers = vec![0; RELOCATION * self.relocations as usize];
+        accepted(ffi::relocation_table(file, &mut numbers))?;
+        let rows = numbers.chunks_exact(RELOCATION);
+        Ok(rows.map(relocation_row).collect())
+    }
+
+    pub fn import_table<'a>(&self, file: &'a [u8]) -> Result<ImportTable<'a>, Refusal> {
+        let mut numbers = vec![0; IMPORT * self.ids as usize];
+        accepted(ffi::import_table(file, &mut numbers))?;
+        Ok(ImportTable { file, numbers })
+    }
 }
 
 impl<'a> SymbolTable<'a> {
+    /// The row at a place of the listing, from 0.
+    pub fn row(&self, place: usize) -> SymbolRow<'a> {
+        symbol_row(self.file, &self.numbers[SYMBOL * place..][..SYMBOL])
+    }
+
     pub fn rows(&self) -> impl Iterator<Item = SymbolRow<'a>> + '_ {
         let file = self.file;
         self.numbers

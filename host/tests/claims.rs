@@ -528,3 +528,69 @@ fn the_architecture_has_each_crate_at_its_layer() {
     }
     assert_eq!(drawn, kept);
 }
+
+// ---- docs/TESTING.md
+
+/// As documents write numbers: 2,619.
+fn with_commas(number: usize) -> String {
+    let digits = number.to_string();
+    let pieces: Vec<&str> = (0..digits.len().div_ceil(3))
+        .rev()
+        .map(|n| {
+            let end = digits.len() - 3 * n;
+            &digits[end.saturating_sub(3)..end]
+        })
+        .collect();
+    pieces.join(",")
+}
+
+/// The plain files of a folder.
+fn files_of(folder: &str) -> BTreeSet<String> {
+    let entries = std::fs::read_dir(root().join(folder)).unwrap();
+    let entries = entries.map(|entry| entry.unwrap());
+    let files = entries.filter(|entry| entry.path().is_file());
+    files
+        .map(|entry| entry.file_name().into_string().unwrap())
+        .collect()
+}
+
+#[test]
+fn recorded_cases_and_real_files_are_as_many_as_the_document_says() {
+    let text = read("docs/TESTING.md");
+    let mut said = Vec::new();
+    let mut total = 0;
+    for name in files_of("tests/vectors") {
+        let Some(request) = name
+            .strip_prefix("cases")
+            .and_then(|n| n.strip_suffix(".txt"))
+        else {
+            continue;
+        };
+        let cases = read(&format!("tests/vectors/{name}"));
+        let count = cases.lines().filter(|l| !l.starts_with("file ")).count();
+        total += count;
+        let of = match request.trim_start_matches(['-', '0']) {
+            "" => "of the base".to_string(),
+            request => format!("with request {request}"),
+        };
+        said.push(format!("{} {of}", with_commas(count)));
+    }
+    said.push(format!("| {} recorded cases: ", with_commas(total)));
+
+    let is_real = |name: &String| ![".txt", ".py", ".md"].iter().any(|end| name.ends_with(end));
+    let [corpus, large, pairs] = ["tests/corpus", "tests/corpus/large", "tests/pairs"]
+        .map(|folder| files_of(folder).into_iter().filter(is_real).collect());
+    let corpus: BTreeSet<String> = &corpus | &large;
+    let all = corpus.union(&pairs).count();
+    said.push(format!("\n{all} files by GNU as"));
+    said.push(format!("{} in `tests/corpus`", corpus.len()));
+    let half = pairs.len() / 2;
+    said.push(format!("{} ({half} pairs) in `tests/pairs`", pairs.len()));
+
+    let missing = said.into_iter().filter(|said| !text.contains(said));
+    none(
+        missing
+            .map(|said| format!("docs/TESTING.md does not say: {}", said.trim()))
+            .collect(),
+    );
+}

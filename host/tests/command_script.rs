@@ -148,6 +148,53 @@ fn what_is_missing_is_built_once_and_the_command_runs_where_it_was_called() {
     }
 }
 
+/// A terminal: what is written to the second file is read from the first.
+fn terminal() -> (fs::File, fs::File) {
+    use std::ffi::{c_char, c_int, CStr};
+    use std::os::fd::FromRawFd;
+    extern "C" {
+        fn posix_openpt(flags: c_int) -> c_int;
+        fn grantpt(file: c_int) -> c_int;
+        fn unlockpt(file: c_int) -> c_int;
+        fn ptsname(file: c_int) -> *const c_char;
+    }
+    const READ_WRITE_NOT_CONTROLLING: c_int = 0o402;
+    // SAFETY: the calls of POSIX in their order; the name is copied before any other call.
+    let (reader, name) = unsafe {
+        let file = posix_openpt(READ_WRITE_NOT_CONTROLLING);
+        assert!(file >= 0 && grantpt(file) == 0 && unlockpt(file) == 0);
+        let name = CStr::from_ptr(ptsname(file)).to_str().unwrap().to_string();
+        (fs::File::from_raw_fd(file), name)
+    };
+    let writer = fs::OpenOptions::new().write(true).open(name).unwrap();
+    (reader, writer)
+}
+
+#[test]
+fn on_a_terminal_a_line_says_which_crate_of_how_many_is_proved() {
+    let repository = Repository::new("terminal");
+    let library = "mkdir -p target/staticlib && echo lib >target/staticlib/libxcoff_c.a";
+    let proved = "for crate in word text; do echo \"rt: $crate proved (1 s)\"; echo more; done";
+    let last = "[ $1 != staticlib ] || echo 'rt: xcoff_c proved (unchanged)'";
+    repository.tool("rt", &format!("{library}\n{proved}\n{last}"));
+    let (reader, writer) = terminal();
+    let mut command = Command::new(repository.path("xcoff"));
+    command
+        .current_dir(repository.path("elsewhere"))
+        .env("PATH", repository.path("tools"))
+        .stderr(writer);
+    assert_eq!(command.output().unwrap().status.code(), Some(7));
+    drop(command);
+    // The last one to have it open is gone: what is left to read ends with an error.
+    let mut said = Vec::new();
+    let _ = std::io::Read::read_to_end(&mut &reader, &mut said);
+    let said = String::from_utf8(said).unwrap().replace("\r\n", "\n");
+    let progress = "\r\x1b[Kxcoff: 1 of 3 crates proved: word\
+                    \r\x1b[Kxcoff: 2 of 3 crates proved: text\
+                    \r\x1b[Kxcoff: 3 of 3 crates proved: xcoff_c\n";
+    assert_eq!(said, [PROVING, progress, BUILDING].concat());
+}
+
 #[test]
 fn a_closed_output_is_not_taken_for_an_empty_one() {
     let repository = Repository::new("closed");

@@ -1,12 +1,15 @@
 //! What a new user does by mistake, and what the command does then: no such sequence ends in wrong images and status 0.
 
 mod command_runner;
+mod made;
 
 use command_runner::{real, recorded, sheet, Folder, Ran};
+use made::Module;
 use std::fs::File;
 use std::io::Write;
 use std::process::{Child, Command, Stdio};
 use std::time::{Duration, Instant};
+use xcoff::Format;
 
 /// A module whose text and data both differ between two plans, with three sheets, and the images for the first.
 fn bench() -> Folder {
@@ -357,6 +360,37 @@ fn imports_at_address_0_that_nobody_gave_are_listed() {
         1,
         "xcoff: s for exe-dso-32 (addresses: 9, loader symbols: 5): refused 20 2 0: ROOM, the list of addresses is not exactly as long as needed\n",
     );
+}
+
+// ---- memory
+
+/// The most bytes of a module's images, beside which all else is small.
+const DATA: u64 = 15 << 20;
+
+#[test]
+fn a_move_has_room_in_the_file_and_three_times_the_images() {
+    let folder = Folder::new();
+    let mut module = Module::new(Format::Xcoff32);
+    module.data_size = DATA;
+    module.relocate(2, module.data_address, 0x1F00, &[&[(1, false)]]);
+    folder.write("m", &module.bytes());
+    folder.done(&["plan", "m", "-o", "one"]);
+    folder.done(&["plan", "m", "--data", "30000000", "-o", "two"]);
+    folder.done(&["build", "m", "one", "-o", "t", "d"]);
+    let limit = (4 * DATA + (8 << 20)) >> 10;
+    let shell = |args: &str| {
+        let mut shell = Command::new("bash");
+        let line = format!("ulimit -v {limit}; exec \"$0\" {args}");
+        let shell = shell.args(["-c", &line, env!("CARGO_BIN_EXE_xcoff")]);
+        let output = shell.current_dir(folder.path("")).output().unwrap();
+        Ran::of(output)
+    };
+    let ran = shell("move m one two t d");
+    assert_eq!((ran.status, ran.err.as_str()), (Some(0), ""));
+    // Also where the images are compared with those of both plans.
+    let ran = shell("move m one two t d");
+    assert_eq!(ran.status, Some(1));
+    assert!(ran.err.contains("they are already moved"), "{}", ran.err);
 }
 
 // ---- 5: overlapping and unaligned images

@@ -6,17 +6,15 @@ ghost use lib.IntN.{pos};
 ghost use Rattle.relocation.specs.Relocation.{bytesWide};
 ghost use Rattle.loadable.specs.Valid.{Valid};
 ghost use Rattle.update.specs.Update.{remainder, addField};
-ghost use Rattle.history.specs.Images.{images, signed, applyEntry, applyAll};
+ghost use Rattle.history.specs.Images.{images, signed, applyEntry};
 ghost use Rattle.history.specs.Plan.{Relocatable, Plan};
-ghost use Rattle.plan.specs.Relocatable.{relocationAt, relocationsFrom, relocatableOf};
+ghost use Rattle.plan.specs.Relocatable.{relocationAt, relocatableOf};
 ghost use Rattle.apply.specs.Shift.{shiftOf, ForPlans};
-use format::Format;
 use history::Followed;
 use loadable::Loadable;
-use module::Module;
 
 // Adds `z` to the field of 4 bytes at `off`, or subtracts it.
-fn add_to_narrow(s: &mut [u8], off: usize, minus: bool, z: u64)
+pub fn add_to_narrow(s: &mut [u8], off: usize, minus: bool, z: u64)
     requires { ⌜ off + 4 ≤ length (now s) ⌝ }
     ensures { λ _. ⌜ now (s .exit) ≡ addField 4 off (signed minus (pos z)) (now (s .entry)) ⌝ }
 {
@@ -117,7 +115,7 @@ pub fn shift_of(
 }
 
 // Updates the field of relocation entry `i` by its symbol's shift.
-fn apply_entry(
+pub fn apply_entry(
     file: &[u8],
     l: Loadable,
     i: u64,
@@ -141,134 +139,4 @@ fn apply_entry(
         return;
     }
     add_to_field(data, place.offset as usize, place.wide, e.minus, z);
-}
-
-// The same in XCOFF32, whose fields are all of 4 bytes.
-fn apply_entry32(
-    file: &[u8],
-    l: Loadable,
-    i: u64,
-    d: [u64; 3],
-    moving: bool,
-    from: &[u64],
-    to: &[u64],
-    text: &mut [u8],
-    data: &mut [u8],
-)
-    requires { ⌜ Valid (now file) l × (i < l .tables .nreloc) ⌝ }
-    requires { ⌜ (length (now from) ≡ l .tables .nsyms) × (length (now to) ≡ l .tables .nsyms) ⌝ }
-    requires { ⌜ (length (now text) ≡ l .layout .parts .text .size) × (length (now «data») ≡ l .layout .image) ⌝ }
-    requires { ⌜ l .layout .format ≡ Format.Xcoff32 ⌝ }
-    ensures { λ _. ⌜ ForPlans (relocatableOf (now (file .entry)) l) d moving (now (from .entry)) (now (to .entry)) (λ s. images (now (text .exit)) (now («data» .exit)) ≡ applyEntry (relocationAt (now (file .entry)) l i) s (images (now (text .entry)) (now («data» .entry)))) ⌝ }
-{
-    let e = plan::relocation_at(file, l, i);
-    let place = e.place;
-    let z = shift_of(file, l, d, moving, from, to, e.symbol);
-    if place.text {
-        add_to_narrow(text, place.offset as usize, e.minus, z);
-        return;
-    }
-    add_to_narrow(data, place.offset as usize, e.minus, z);
-}
-
-// Applies each relocation entry in order.
-fn apply_entries(
-    file: &[u8],
-    l: Loadable,
-    d: [u64; 3],
-    moving: bool,
-    from: &[u64],
-    to: &[u64],
-    text: &mut [u8],
-    data: &mut [u8],
-)
-    requires { ⌜ Valid (now file) l ⌝ }
-    requires { ⌜ (length (now from) ≡ l .tables .nsyms) × (length (now to) ≡ l .tables .nsyms) ⌝ }
-    requires { ⌜ (length (now text) ≡ l .layout .parts .text .size) × (length (now «data») ≡ l .layout .image) ⌝ }
-    ensures { λ _. ⌜ ForPlans (relocatableOf (now (file .entry)) l) d moving (now (from .entry)) (now (to .entry)) (λ s. images (now (text .exit)) (now («data» .exit)) ≡ applyAll (relocationsFrom (now (file .entry)) l 0 (l .tables .nreloc)) s (images (now (text .entry)) (now («data» .entry)))) ⌝ }
-{
-    let t = l.tables;
-    let count = t.nreloc;
-    let mut i: u64 = 0;
-    while i < count {
-        apply_entry(file, l, i, d, moving, from, to, text, data);
-        i += 1;
-    }
-}
-
-// The same in XCOFF32.
-fn apply_entries32(
-    file: &[u8],
-    l: Loadable,
-    d: [u64; 3],
-    moving: bool,
-    from: &[u64],
-    to: &[u64],
-    text: &mut [u8],
-    data: &mut [u8],
-)
-    requires { ⌜ Valid (now file) l ⌝ }
-    requires { ⌜ (length (now from) ≡ l .tables .nsyms) × (length (now to) ≡ l .tables .nsyms) ⌝ }
-    requires { ⌜ (length (now text) ≡ l .layout .parts .text .size) × (length (now «data») ≡ l .layout .image) ⌝ }
-    requires { ⌜ l .layout .format ≡ Format.Xcoff32 ⌝ }
-    ensures { λ _. ⌜ ForPlans (relocatableOf (now (file .entry)) l) d moving (now (from .entry)) (now (to .entry)) (λ s. images (now (text .exit)) (now («data» .exit)) ≡ applyAll (relocationsFrom (now (file .entry)) l 0 (l .tables .nreloc)) s (images (now (text .entry)) (now («data» .entry)))) ⌝ }
-{
-    let t = l.tables;
-    let count = t.nreloc;
-    let mut k: u64 = 0;
-    while k < count {
-        apply_entry32(file, l, k, d, moving, from, to, text, data);
-        k += 1;
-    }
-}
-
-// A module whose format is `f`, with `f` written into it, so that the compiler knows it in all that follows.
-fn with_format(l: Loadable, f: Format) -> Loadable
-    requires { ⌜ l .layout .format ≡ f ⌝ }
-    ensures { λ r. ⌜ r ≡ l ⌝ }
-{
-    let m = l.layout;
-    let parts = m.parts;
-    let entry = m.entry;
-    let toc = m.toc;
-    let tables = l.tables;
-    let layout = Module {
-        format: f,
-        parts,
-        image: m.image,
-        entry,
-        toc,
-    };
-    Loadable { layout, tables }
-}
-
-// Applies each relocation entry in order. `d` has the shifts of text, data and bss; imports shift from `from` to `to`, in a build from their
-// recorded values. Each format has a loop of its own, which then does not ask for the format at each entry.
-pub fn apply_all(
-    file: &[u8],
-    l: Loadable,
-    d: [u64; 3],
-    moving: bool,
-    from: &[u64],
-    to: &[u64],
-    text: &mut [u8],
-    data: &mut [u8],
-)
-    requires { ⌜ Valid (now file) l ⌝ }
-    requires { ⌜ (length (now from) ≡ l .tables .nsyms) × (length (now to) ≡ l .tables .nsyms) ⌝ }
-    requires { ⌜ (length (now text) ≡ l .layout .parts .text .size) × (length (now «data») ≡ l .layout .image) ⌝ }
-    ensures { λ _. ⌜ ForPlans (relocatableOf (now (file .entry)) l) d moving (now (from .entry)) (now (to .entry)) (λ s. images (now (text .exit)) (now («data» .exit)) ≡ applyAll (relocationsFrom (now (file .entry)) l 0 (l .tables .nreloc)) s (images (now (text .entry)) (now («data» .entry)))) ⌝ }
-{
-    let m = l.layout;
-    let f = m.format;
-    match f {
-        Format::Xcoff32 => {
-            let known = with_format(l, Format::Xcoff32);
-            apply_entries32(file, known, d, moving, from, to, text, data)
-        }
-        Format::Xcoff64 => {
-            let known = with_format(l, Format::Xcoff64);
-            apply_entries(file, known, d, moving, from, to, text, data)
-        }
-    }
 }

@@ -25,7 +25,7 @@ pub fn check_plan(file: &[u8], l: Loadable, at: Addresses, imports: &[u64]) -> V
     }
     let text = at.text;
     let data = at.data;
-    plan::check_fit(file, l, text.0, data.0, imports)
+    plan_fit::check_fit(file, l, text.0, data.0, imports)
 }
 
 // ROOM 0 and 1: buffers of exactly the images' lengths.
@@ -91,11 +91,11 @@ fn check_fits(
     let fd = from.data;
     let tt = to.text;
     let td = to.data;
-    let v = plan::check_fit(file, l, ft.0, fd.0, from_imports);
+    let v = plan_fit::check_fit(file, l, ft.0, fd.0, from_imports);
     if refusal::refuses(v) {
         return v;
     }
-    plan::check_fit(file, l, tt.0, td.0, to_imports)
+    plan_fit::check_fit(file, l, tt.0, td.0, to_imports)
 }
 
 // A move's lists, its plans, then the buffers' lengths.

@@ -4,14 +4,13 @@ ghost use Prim.Native.Nat.{_-_};
 ghost use lib.ListN.{length};
 ghost use Rattle.loadable.specs.Valid.{Valid};
 ghost use Rattle.history.specs.Images.{images};
-ghost use Rattle.history.specs.Call.{Call, build, move, answerOf, effect};
-ghost use Rattle.plan.specs.Relocatable.{relocatableOf, relocatableAt};
+ghost use Rattle.history.specs.Call.{build, move, answerOf, effect};
+ghost use Rattle.plan.specs.Relocatable.{relocatableOf};
 ghost use Rattle.displacement.specs.Reach.{planOf};
 ghost use Rattle.image.specs.Report.{reportOfCall};
 use displacement::Addresses;
 use history::CallAnswer;
 use loadable::Loadable;
-use loadable::LoadableAnswer;
 use refusal::Head;
 use refusal::Verdict;
 
@@ -28,7 +27,7 @@ pub struct CallReport {
 // ---- builds and moves
 
 // A build of a module that is accepted.
-fn build_valid(
+pub fn build_valid(
     file: &[u8],
     l: Loadable,
     at: Addresses,
@@ -46,14 +45,14 @@ fn build_valid(
         Verdict::Accepted => {
             raw_image::fill_raw(file, l, text, data);
             let d = displacement::displacements(at, l);
-            apply::apply_all(file, l, d, false, imports, imports, text, data);
+            apply_all::apply_all(file, l, d, false, imports, imports, text, data);
             CallAnswer::Done(displacement::reach(l, at))
         }
     }
 }
 
 // A move of a module that is accepted.
-fn move_valid(
+pub fn move_valid(
     file: &[u8],
     l: Loadable,
     from: Addresses,
@@ -81,58 +80,9 @@ fn move_valid(
         Verdict::Refused(x) => CallAnswer::Refused(x),
         Verdict::Accepted => {
             let d = displacement::differences(from, to);
-            apply::apply_all(file, l, d, true, from_imports, to_imports, text, data);
+            apply_all::apply_all(file, l, d, true, from_imports, to_imports, text, data);
             CallAnswer::Done(displacement::reach(l, to))
         }
-    }
-}
-
-// Builds the images of the module in `file` for a plan: its addresses, and a list with a place for each loader symbol.
-pub fn build_images(
-    file: &[u8],
-    at: Addresses,
-    imports: &[u64],
-    text: &mut [u8],
-    data: &mut [u8],
-) -> CallAnswer
-    ensures cause { λ r. ⌜ r ≡ answerOf (relocatableAt (now (file .entry))) (length (now (text .entry))) (length (now («data» .entry))) (build (planOf at (now (imports .entry)))) ⌝ }
-    ensures report { λ r. ⌜ reportOfCall (now (file .entry)) r ≡ reportOfCall (now (file .entry)) (answerOf (relocatableAt (now (file .entry))) (length (now (text .entry))) (length (now («data» .entry))) (build (planOf at (now (imports .entry))))) ⌝ }
-    ensures images { λ _. ⌜ images (now (text .exit)) (now («data» .exit)) ≡ effect (relocatableAt (now (file .entry))) (build (planOf at (now (imports .entry)))) (images (now (text .entry)) (now («data» .entry))) ⌝ }
-{
-    let a = loadable::module_of(file);
-    match a {
-        LoadableAnswer::Refused(x) => CallAnswer::Refused(x),
-        LoadableAnswer::Found(l) => build_valid(file, l, at, imports, text, data),
-    }
-}
-
-// Moves images from one plan to another, taking the buffers as they are.
-pub fn move_images(
-    file: &[u8],
-    from: Addresses,
-    from_imports: &[u64],
-    to: Addresses,
-    to_imports: &[u64],
-    text: &mut [u8],
-    data: &mut [u8],
-) -> CallAnswer
-    ensures cause { λ r. ⌜ r ≡ answerOf (relocatableAt (now (file .entry))) (length (now (text .entry))) (length (now («data» .entry))) (move (planOf from (now («from_imports» .entry))) (planOf to (now («to_imports» .entry)))) ⌝ }
-    ensures report { λ r. ⌜ reportOfCall (now (file .entry)) r ≡ reportOfCall (now (file .entry)) (answerOf (relocatableAt (now (file .entry))) (length (now (text .entry))) (length (now («data» .entry))) (move (planOf from (now («from_imports» .entry))) (planOf to (now («to_imports» .entry))))) ⌝ }
-    ensures images { λ _. ⌜ images (now (text .exit)) (now («data» .exit)) ≡ effect (relocatableAt (now (file .entry))) (move (planOf from (now («from_imports» .entry))) (planOf to (now («to_imports» .entry)))) (images (now (text .entry)) (now («data» .entry))) ⌝ }
-{
-    let a = loadable::module_of(file);
-    match a {
-        LoadableAnswer::Refused(x) => CallAnswer::Refused(x),
-        LoadableAnswer::Found(l) => move_valid(
-            file,
-            l,
-            from,
-            from_imports,
-            to,
-            to_imports,
-            text,
-            data,
-        ),
     }
 }
 

@@ -4,7 +4,7 @@ ghost use Prim.Native.Nat.{_+_, _*_, _≤_};
 ghost use lib.ListN.{length};
 ghost use Rattle.format.specs.Limit.{sectionLimit};
 ghost use Rattle.line.specs.Line.{lineLength};
-ghost use Rattle.line_lookup.specs.Lookup.{textCheck, withFormat, lineTableIn, lineTableAt, reportOfCount, countReport, lookupOf, findIn, lineAt, reportOfLine, lineReport};
+ghost use Rattle.line_lookup.specs.Lookup.{textCheck, withFormat, reportOfCount, lookupOf, findIn, reportOfLine};
 use format::FileOffset;
 use format::Format;
 use format::SectionNumber;
@@ -17,7 +17,6 @@ use refusal::Refusal;
 use refusal::Verdict;
 use section_kind::SectionKind;
 use section_tables::TableAnswer;
-use table_kind::TableKind;
 
 // The line table of a text section.
 pub struct LineTable {
@@ -55,7 +54,7 @@ pub struct LineReport {
 }
 
 // INDEX where the file has no text section `n`.
-fn check_text(y: Summary, n: SectionNumber) -> Verdict
+pub fn check_text(y: Summary, n: SectionNumber) -> Verdict
     requires { ⌜ y .count ≤ sectionLimit ⌝ }
     ensures { λ r. ⌜ r ≡ textCheck y n ⌝ }
 {
@@ -73,7 +72,7 @@ fn check_text(y: Summary, n: SectionNumber) -> Verdict
     Verdict::Refused(Refusal::Index(IndexItem::NoSection(n)))
 }
 
-fn with_format(f: Format, a: TableAnswer) -> LineTableAnswer
+pub fn with_format(f: Format, a: TableAnswer) -> LineTableAnswer
     ensures { λ r. ⌜ r ≡ withFormat f a ⌝ }
 {
     match a {
@@ -89,38 +88,6 @@ fn with_format(f: Format, a: TableAnswer) -> LineTableAnswer
     }
 }
 
-// The line table of section `n` of an opened file of `len` bytes.
-fn line_table_in(len: u64, y: Summary, n: SectionNumber) -> LineTableAnswer
-    requires { ⌜ y .count ≤ sectionLimit ⌝ }
-    ensures { λ r. ⌜ r ≡ lineTableIn len y n ⌝ }
-{
-    let v = check_text(y, n);
-    match v {
-        Verdict::Refused(x) => LineTableAnswer::Refused(x),
-        Verdict::Accepted => {
-            let f = y.format;
-            let a = section_tables::find_table(TableKind::Lines, y, len, n);
-            with_format(f, a)
-        }
-    }
-}
-
-// The line table of text section `n`, and how many entries it has.
-pub fn find_line_table(file: &[u8], n: SectionNumber) -> LineTableAnswer
-    ensures cause { λ r. ⌜ r ≡ lineTableAt (now (file .entry)) n ⌝ }
-    ensures report { λ r. ⌜ reportOfCount (now (file .entry)) r ≡ countReport (now (file .entry)) n ⌝ }
-{
-    let o = header::open(file);
-    let v = o.verdict;
-    match v {
-        Verdict::Refused(x) => LineTableAnswer::Refused(x),
-        Verdict::Accepted => {
-            let y = o.summary;
-            line_table_in(file.len() as u64, y, n)
-        }
-    }
-}
-
 // The answer of a search with document 02's refusals.
 fn lookup_of(a: LineAnswer) -> LineLookup
     ensures { λ r. ⌜ r ≡ lookupOf a ⌝ }
@@ -132,7 +99,7 @@ fn lookup_of(a: LineAnswer) -> LineLookup
     }
 }
 
-fn find_in(file: &[u8], t: LineTable, address: u64) -> LineLookup
+pub fn find_in(file: &[u8], t: LineTable, address: u64) -> LineLookup
     requires { ⌜ t .start .0 + t .count * lineLength (t .format) ≤ length (now file) ⌝ }
     ensures { λ r. ⌜ r ≡ findIn (now (file .entry)) address (LineTableAnswer.Found t) ⌝ }
 {
@@ -140,18 +107,6 @@ fn find_in(file: &[u8], t: LineTable, address: u64) -> LineLookup
     let start = t.start;
     let at = start.0 as usize;
     lookup_of(line_reader::find_in_table(file, at, t.count as usize, f, address))
-}
-
-// The entry of text section `n` with the greatest address not above `address`, the first such in table order.
-pub fn find_line(file: &[u8], n: SectionNumber, address: u64) -> LineLookup
-    ensures cause { λ r. ⌜ r ≡ lineAt (now (file .entry)) n address ⌝ }
-    ensures report { λ r. ⌜ reportOfLine (now (file .entry)) r ≡ lineReport (now (file .entry)) n address ⌝ }
-{
-    let a = find_line_table(file, n);
-    match a {
-        LineTableAnswer::Refused(x) => LineLookup::Refused(x),
-        LineTableAnswer::Found(t) => find_in(file, t, address),
-    }
 }
 
 pub fn report_count(file: &[u8], a: LineTableAnswer) -> LineCountReport

@@ -57,10 +57,10 @@ pub fn pass(file: &[u8], at: usize, count: usize, f: Format, address: u64) -> Li
 {
     let end = line::table_end(at, count, f);
     let mut r = reader(file, at);
-    let mut s = line::begin();
+    let mut s = line_search::begin();
     while has_entry(r, end) {
         let e = entry(r, f);
-        s = line::see(s, address, e);
+        s = line_search::see(s, address, e);
         r = step(r, f);
     }
     s
@@ -87,5 +87,5 @@ pub fn find_in_table(file: &[u8], at: usize, count: usize, f: Format, address: u
     requires { ⌜ at + count * lineLength f ≤ length (now file) ⌝ }
     ensures { λ r. ⌜ r ≡ answerIn (entryOf (now (file .entry)) at f) address count ⌝ }
 {
-    line::answer_of(pass(file, at, count, f, address))
+    line_search::answer_of(pass(file, at, count, f, address))
 }

@@ -65,7 +65,7 @@ pub fn line_table(file: &[u8], n: SectionNumber, out: &mut [u64]) -> Verdict
     ensures report { λ r. ⌜ reportHead (now (file .entry)) r ≡ reportHead (now (file .entry)) (lineTableCheck (now (file .entry)) n (length (now (out .entry)))) ⌝ }
     ensures rows { λ _. ⌜ now (out .exit) ≡ linesAfter (now (file .entry)) n (now (out .entry)) ⌝ }
 {
-    let a = line_lookup::find_line_table(file, n);
+    let a = line_find::find_line_table(file, n);
     match a {
         LineTableAnswer::Refused(x) => Verdict::Refused(x),
         LineTableAnswer::Found(t) => list_lines(file, t, out),

@@ -30,12 +30,13 @@ use Rattle.loader.specs.Inside.{LoaderInside}
 use Rattle.loader.proofs.Accepted.{loader-inside}
 use Rattle.relocation.specs.Relocation.{entryIn, ownAt, placeAt, EntriesInside, PlaceInside}
 use Rattle.relocation.proofs.Entries.{place-inside, own-symbol}
-use Rattle.field_overlap.specs.Overlap.{meets, Readable}
+use Rattle.field_overlap.specs.Overlap.{meets}
 use Rattle.field_overlap.proofs.Rule.{meets-none}
 use Rattle.loadable.specs.declared.Loadable.{Loadable}
 use Rattle.loadable.specs.declared.LoadableAnswer.{LoadableAnswer}
 use Rattle.loadable.specs.declared.LoadableAnswer.the-variants.{Found, Refused}
-use Rattle.loadable.specs.Entries.{entryCheck, entriesCheck, FirstRefused, EntriesReady}
+use Rattle.loader_entries.specs.Entries.{entryCheck, entriesCheck, EntriesReady}
+use Rattle.loader_entries.proofs.Readable.{field-inside}
 use Rattle.loadable.specs.Loadable.{loadableWith, loadableIn, loadableAt}
 use Rattle.loadable.specs.Valid.{Valid}
 
@@ -62,26 +63,10 @@ entries-ready file m t i e =
       dataSize = part-small (length file) (m .parts .«data») (i .small) (i .«data») (decLt 0 (m .parts .«data» .size));
     }
 
--- the entries before the first that is refused by itself
 module _ (file : List ℕ) (f : Format) (p : Parts) (t : LoaderTables) where
-  pub field-inside : (i : ℕ) → ownAt file f p t i ≡ verdict.Accepted → PlaceInside p (placeAt file f p t i)
-  unfolding ownAt placeAt
-  field-inside i e = place-inside f p (t .nsyms) i (entryIn file f t i) e
-
   symbol-known : (i : ℕ) → ownAt file f p t i ≡ verdict.Accepted → entryIn file f t i .symbol < 3 + t .nsyms
   unfolding ownAt
   symbol-known i e = ltb-true (entryIn file f t i .symbol) (3 + t .nsyms) (own-symbol f p (t .nsyms) i (entryIn file f t i) e)
-
-  pub entries-readable : {k : ℕ} → EntriesReady file f p t → FirstRefused (ownAt file f p t) (t .nreloc) k → Readable file f p t k
-  entries-readable r own =
-      record {
-        entries = r .entries;
-        few = own .within;
-        accepted = λ i l. accepts (ownAt file f p t i) (own .before i l);
-        inside = λ i l. field-inside i (accepts (ownAt file f p t i) (own .before i l));
-        textSize = r .textSize;
-        dataSize = r .dataSize;
-      }
 
   -- ---- entries that are accepted
 

@@ -1,5 +1,4 @@
--- The laws of loadable modules: the order of the entries' refusals, and what an accepted module guarantees.
+-- The laws of loadable modules: what an accepted module guarantees, and where its refusals point.
 
-pub mod Order
 pub mod Accepted
 pub mod Named

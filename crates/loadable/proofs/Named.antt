@@ -39,7 +39,7 @@ use Rattle.relocation.specs.Relocation.{isThread, isGood, entryIn, ownCheck, ow
 use Rattle.field_overlap.specs.Overlap.{meets}
 use Rattle.loadable.specs.declared.LoadableAnswer.{LoadableAnswer}
 use Rattle.loadable.specs.declared.LoadableAnswer.the-variants.{Found, Refused}
-use Rattle.loadable.specs.Entries.{entryCheck, entriesCheck}
+use Rattle.loader_entries.specs.Entries.{entryCheck, entriesCheck}
 use Rattle.loadable.specs.Loadable.{loadableWith, loadableIn, loadableAt}
 use Rattle.loadable.proofs.Accepted.{loader-room}
 

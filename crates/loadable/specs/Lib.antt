@@ -1,4 +1,3 @@
 -- What the contracts of `loadable` cite.
-pub mod Entries
 pub mod Loadable
 pub mod Valid

@@ -17,7 +17,7 @@ use Rattle.loadable.specs.declared.LoadableAnswer.the-variants.{Found, R
 use Rattle.loadable.specs.declared.PartReport.{PartReport}
 use Rattle.loadable.specs.declared.AnchorReport.{AnchorReport}
 use Rattle.loadable.specs.declared.ModuleReport.{ModuleReport}
-use Rattle.loadable.specs.Entries.{entriesCheck}
+use Rattle.loader_entries.specs.Entries.{entriesCheck}
 use Rattle.refusal.specs.Order.{byVerdict}
 use Rattle.offset.specs.Report.{refusalHead}
 

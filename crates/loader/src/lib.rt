@@ -24,7 +24,7 @@ fn check_symbols(file: &[u8], f: Format, p: Parts, t: LoaderTables) -> Verdict
     let count = t.nsyms;
     let mut k: u64 = 0;
     while k < count {
-        let v = loader_symbol::check_symbol(file, f, p, t, k);
+        let v = loader_symbol_check::check_symbol(file, f, p, t, k);
         if refusal::refuses(v) {
             return v;
         }

@@ -6,10 +6,8 @@ ghost use Rattle.word.specs.Number.{bytesIn};
 ghost use Rattle.format.specs.Layout.{symbolLength};
 ghost use Rattle.symbol.specs.Entry.{OpenTables, entryStart};
 ghost use Rattle.mend.specs.Mend.{withoutVisibility};
-ghost use Rattle.mend.specs.Report.{putBytes};
-ghost use Rattle.mend.specs.Entry.{refusalsOf, putIf, mendBy, mendedAux, rowIf, rowsBy, refusedIn};
+ghost use Rattle.mend.specs.Entry.{refusalsOf, putIf, mendBy};
 use format::SymbolIndex;
-use refusal::Refusal;
 use symbol::SymbolEntry;
 use symbol::Tables;
 use word::Field;
@@ -71,51 +69,4 @@ pub fn mend_entry(copy: &mut [u8], t: Tables, i: SymbolIndex, e: SymbolEntry, r:
     put_if(copy, r.scnum, base, scnum, 0);
     put_if(copy, r.name, base, offset, 0);
     put_if(copy, r.visibility, base, ntype, without_visibility(e.ntype));
-}
-
-// The auxiliaries of an entry as mended: `left` is how many the table has room for.
-pub fn mended_aux(r: EntryRefusals, left: u64, numaux: u64) -> u64
-    ensures { λ n. ⌜ n ≡ mendedAux r left numaux ⌝ }
-{
-    if r.aux {
-        return left % 256;
-    }
-    numaux
-}
-
-// One row of the report, where the test holds: index and refusal number. Answers where the next one goes.
-fn report_if(report: &mut [u8], on: bool, at: usize, i: SymbolIndex, x: Refusal) -> usize
-    requires { ⌜ at + length (rowIf on i x) ≤ length (now report) ⌝ }
-    ensures row { λ r. ⌜ now (report .exit) ≡ putBytes at (rowIf on i x) (now (report .entry)) ⌝ }
-    ensures next { λ r. ⌜ r ≡ at + length (rowIf on i x) ⌝ }
-{
-    if on {
-        file_copy::put_number(report, at, word::four(0), i.0);
-        file_copy::put_number(report, at, word::four(4), refusal::number(x));
-        return at + 8;
-    }
-    at
-}
-
-// The rows of an entry, in the order of its checks.
-pub fn report_entry(report: &mut [u8], at: usize, i: SymbolIndex, r: EntryRefusals) -> usize
-    requires { ⌜ at + length (rowsBy i r) ≤ length (now report) ⌝ }
-    ensures rows { λ n. ⌜ now (report .exit) ≡ putBytes at (rowsBy i r) (now (report .entry)) ⌝ }
-    ensures next { λ n. ⌜ n ≡ at + length (rowsBy i r) ⌝ }
-{
-    let one = report_if(report, r.aux, at, i, Refusal::Aux(i));
-    let two = report_if(report, r.scnum, one, i, Refusal::Scnum(i));
-    let three = report_if(report, r.name, two, i, Refusal::Name(i));
-    report_if(report, r.visibility, three, i, Refusal::Visibility(i))
-}
-
-// How many checks refuse an entry.
-pub fn count_refusals(r: EntryRefusals) -> u64
-    ensures value { λ n. ⌜ n ≡ refusedIn r ⌝ }
-    ensures bound { λ n. ⌜ n ≤ 4 ⌝ }
-{
-    refusal::one_if(r.aux)
-        + refusal::one_if(r.scnum)
-        + refusal::one_if(r.name)
-        + refusal::one_if(r.visibility)
 }

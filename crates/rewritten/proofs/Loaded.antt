@@ -37,7 +37,7 @@ use Rattle.relocation.proofs.Entries.{own-held, entry-whole}
 use Rattle.field_overlap.specs.Overlap.{meets}
 use Rattle.loadable.specs.declared.Loadable.{Loadable}
 use Rattle.loadable.specs.declared.LoadableAnswer.the-variants as answer
-use Rattle.loadable.specs.Entries.{entryCheck, entriesCheck}
+use Rattle.loader_entries.specs.Entries.{entryCheck, entriesCheck}
 use Rattle.loadable.specs.Loadable.{loadableAt}
 use Rattle.loadable.specs.Valid.{Valid}
 use Rattle.history.specs.declared.Followed.{Followed}

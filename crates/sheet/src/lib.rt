@@ -2,11 +2,8 @@
 ghost use mathlib.Core.Path.{_≡_};
 ghost use Prim.Native.Nat.{_+_, _*_, _≤_};
 ghost use lib.ListN.{length};
-ghost use lib.Seq.{sets};
 ghost use Rattle.word.specs.Number.{fieldAt};
-ghost use Rattle.update.specs.Update.{putField};
-ghost use Rattle.refusal.specs.Order.{byVerdict, ifAccepted};
-ghost use Rattle.sheet.specs.Sheet.{countWidth, listLimit, formOf, headLength, sheetLength, headOf, numbersFrom, sheetCheck, roomCheck, headIn, readIn, listIn, headAnswer, readAnswer, readList, addressBytes, writeCheck, writeSheet, sheetHead, reportOfSheet};
+ghost use Rattle.sheet.specs.Sheet.{countWidth, listLimit, formOf, headLength, sheetLength, headOf, writeCheck, sheetHead, reportOfSheet};
 use format::VirtualAddress;
 use refusal::Head;
 use refusal::LimitItem;
@@ -56,7 +53,7 @@ fn count_width(f: SheetForm) -> usize
 }
 
 // The bytes before the list: count 2, the text and data addresses, count k.
-fn head_length(f: SheetForm) -> usize
+pub fn head_length(f: SheetForm) -> usize
     ensures { λ r. ⌜ r ≡ headLength f ⌝ }
 {
     match f {
@@ -66,7 +63,7 @@ fn head_length(f: SheetForm) -> usize
 }
 
 // The most addresses that the list has.
-fn list_limit(f: SheetForm) -> u64
+pub fn list_limit(f: SheetForm) -> u64
     ensures { λ r. ⌜ r ≡ listLimit f ⌝ }
 {
     match f {
@@ -76,7 +73,7 @@ fn list_limit(f: SheetForm) -> u64
 }
 
 // The form by the first two bytes.
-fn form_of(sheet: &[u8]) -> FormAnswer
+pub fn form_of(sheet: &[u8]) -> FormAnswer
     ensures { λ r. ⌜ r ≡ formOf (now (sheet .entry)) ⌝ }
 {
     if sheet.len() < 2 {
@@ -93,7 +90,7 @@ fn form_of(sheet: &[u8]) -> FormAnswer
 }
 
 // The count at `off`.
-fn read_count(sheet: &[u8], f: SheetForm, off: usize) -> u64
+pub fn read_count(sheet: &[u8], f: SheetForm, off: usize) -> u64
     requires { ⌜ off + countWidth f ≤ length (now sheet) ⌝ }
     ensures { λ r. ⌜ r ≡ fieldAt (countWidth f) off (now (sheet .entry)) ⌝ }
 {
@@ -104,7 +101,7 @@ fn read_count(sheet: &[u8], f: SheetForm, off: usize) -> u64
 }
 
 // The numbers before the list.
-fn read_head(sheet: &[u8], f: SheetForm) -> SheetHead
+pub fn read_head(sheet: &[u8], f: SheetForm) -> SheetHead
     requires { ⌜ headLength f ≤ length (now sheet) ⌝ }
     ensures { λ r. ⌜ r ≡ headOf f (now (sheet .entry)) ⌝ }
 {
@@ -117,111 +114,15 @@ fn read_head(sheet: &[u8], f: SheetForm) -> SheetHead
 }
 
 // The length of a sheet with `count` addresses.
-fn sheet_length(f: SheetForm, count: u64) -> u64
+pub fn sheet_length(f: SheetForm, count: u64) -> u64
     requires { ⌜ count ≤ listLimit f ⌝ }
     ensures { λ r. ⌜ r ≡ sheetLength f count ⌝ }
 {
     head_length(f) as u64 + count * 8
 }
 
-// SHEET, LIMIT 2, SHEET.
-fn check_sheet(sheet: &[u8], f: SheetForm) -> Verdict
-    ensures { λ r. ⌜ r ≡ sheetCheck f (now (sheet .entry)) ⌝ }
-{
-    if sheet.len() < head_length(f) {
-        return Verdict::Refused(Refusal::Sheet);
-    }
-    if read_count(sheet, f, 0) != 2 {
-        return Verdict::Refused(Refusal::Sheet);
-    }
-    let head = read_head(sheet, f);
-    if list_limit(f) < head.count {
-        return Verdict::Refused(Refusal::Limit(LimitItem::SheetList));
-    }
-    if sheet.len() as u64 != sheet_length(f, head.count) {
-        return Verdict::Refused(Refusal::Sheet);
-    }
-    Verdict::Accepted
-}
-
-// What a sheet of the form `f` says of itself.
-fn head_in(sheet: &[u8], f: SheetForm) -> SheetAnswer
-    ensures { λ r. ⌜ r ≡ headIn (now (sheet .entry)) f ⌝ }
-{
-    let v = check_sheet(sheet, f);
-    match v {
-        Verdict::Accepted => SheetAnswer::Found(read_head(sheet, f)),
-        Verdict::Refused(x) => SheetAnswer::Refused(x),
-    }
-}
-
-// What a sheet says of itself: SHEET, LIMIT 2; how long a list it needs.
-pub fn sheet_head(sheet: &[u8]) -> SheetAnswer
-    ensures cause { λ r. ⌜ r ≡ headAnswer (now (sheet .entry)) ⌝ }
-    ensures report { λ r. ⌜ reportOfSheet r ≡ reportOfSheet (headAnswer (now (sheet .entry))) ⌝ }
-{
-    let a = form_of(sheet);
-    match a {
-        FormAnswer::Known(f) => head_in(sheet, f),
-        FormAnswer::Unknown => SheetAnswer::Refused(Refusal::Sheet),
-    }
-}
-
-// Fills the list with the addresses from `start` on.
-fn fill_list(sheet: &[u8], start: usize, list: &mut [u64])
-    requires { ⌜ start + length (now list) * 8 ≤ length (now sheet) ⌝ }
-    ensures { λ _. ⌜ now (list .exit) ≡ numbersFrom (now (sheet .entry)) start (length (now (list .entry))) ⌝ }
-{
-    let mut i = 0;
-    while i < list.len() {
-        list[i] = word::get64(sheet, start + i * 8);
-        i += 1;
-    }
-}
-
-// ROOM 2, or the list filled.
-fn read_list(sheet: &[u8], f: SheetForm, head: SheetHead, list: &mut [u64]) -> SheetAnswer
-    requires { ⌜ sheetLength f (head .count) ≤ length (now sheet) ⌝ }
-    ensures answer { λ r. ⌜ r ≡ byVerdict (roomCheck (length (now (list .entry))) head) (SheetAnswer.Found head) SheetAnswer.Refused ⌝ }
-    ensures list { λ _. ⌜ now (list .exit) ≡ ifAccepted (roomCheck (length (now (list .entry))) head) (numbersFrom (now (sheet .entry)) (headLength f) (head .count)) (now (list .entry)) ⌝ }
-{
-    if list.len() as u64 != head.count {
-        return SheetAnswer::Refused(Refusal::Room(RoomItem::AddressList));
-    }
-    fill_list(sheet, head_length(f), list);
-    SheetAnswer::Found(head)
-}
-
-// Reads a sheet of the form `f` into the list.
-fn read_in(sheet: &[u8], f: SheetForm, list: &mut [u64]) -> SheetAnswer
-    ensures answer { λ r. ⌜ r ≡ readIn (now (sheet .entry)) (length (now (list .entry))) f ⌝ }
-    ensures list { λ _. ⌜ now (list .exit) ≡ listIn (now (sheet .entry)) (now (list .entry)) f ⌝ }
-{
-    let v = check_sheet(sheet, f);
-    match v {
-        Verdict::Accepted => {
-            let head = read_head(sheet, f);
-            read_list(sheet, f, head, list)
-        }
-        Verdict::Refused(x) => SheetAnswer::Refused(x),
-    }
-}
-
-// Reads a sheet into a list of exactly as many places as it has addresses.
-pub fn read_sheet(sheet: &[u8], list: &mut [u64]) -> SheetAnswer
-    ensures cause { λ r. ⌜ r ≡ readAnswer (now (sheet .entry)) (length (now (list .entry))) ⌝ }
-    ensures report { λ r. ⌜ reportOfSheet r ≡ reportOfSheet (readAnswer (now (sheet .entry)) (length (now (list .entry)))) ⌝ }
-    ensures list { λ _. ⌜ now (list .exit) ≡ readList (now (sheet .entry)) (now (list .entry)) ⌝ }
-{
-    let a = form_of(sheet);
-    match a {
-        FormAnswer::Known(f) => read_in(sheet, f, list),
-        FormAnswer::Unknown => SheetAnswer::Refused(Refusal::Sheet),
-    }
-}
-
 // LIMIT 2, ROOM 0.
-fn check_write(count: u64, room: u64) -> Verdict
+pub fn check_write(count: u64, room: u64) -> Verdict
     ensures { λ r. ⌜ r ≡ writeCheck count room ⌝ }
 {
     if format::SHEET_LIST_LIMIT < count {
@@ -230,49 +131,6 @@ fn check_write(count: u64, room: u64) -> Verdict
     if room != sheet_length(SheetForm::New, count) {
         return Verdict::Refused(Refusal::Room(RoomItem::SheetBuffer));
     }
-    Verdict::Accepted
-}
-
-// Writes the numbers before the list, as a new sheet has them.
-fn write_head(text: VirtualAddress, data: VirtualAddress, count: u32, sheet: &mut [u8])
-    requires { ⌜ headLength SheetForm.New ≤ length (now sheet) ⌝ }
-    ensures { λ _. ⌜ now (sheet .exit) ≡ putField 4 20 count (putField 8 12 («data» .0) (putField 8 4 (text .0) (putField 4 0 2 (now (sheet .entry))))) ⌝ }
-{
-    update::put32(sheet, 0, 2);
-    update::put64(sheet, 4, text.0);
-    update::put64(sheet, 12, data.0);
-    update::put32(sheet, 20, count);
-}
-
-// Writes the list's addresses from `start` on.
-fn write_list(list: &[u64], start: usize, sheet: &mut [u8])
-    requires { ⌜ start + length (now list) * 8 ≤ length (now sheet) ⌝ }
-    ensures { λ _. ⌜ now (sheet .exit) ≡ sets (now (sheet .entry)) start (addressBytes (now (list .entry))) ⌝ }
-{
-    let mut i = 0;
-    while i < list.len() {
-        update::put64(sheet, start + i * 8, list[i]);
-        i += 1;
-    }
-}
-
-// Writes the sheet of a plan, in the new form, into a buffer of exactly its length.
-pub fn write_sheet(
-    text: VirtualAddress,
-    data: VirtualAddress,
-    list: &[u64],
-    sheet: &mut [u8],
-) -> Verdict
-    ensures cause { λ r. ⌜ r ≡ writeCheck (length (now (list .entry))) (length (now (sheet .entry))) ⌝ }
-    ensures report { λ r. ⌜ sheetHead r ≡ sheetHead (writeCheck (length (now (list .entry))) (length (now (sheet .entry)))) ⌝ }
-    ensures sheet { λ _. ⌜ now (sheet .exit) ≡ writeSheet (text .0) («data» .0) (now (list .entry)) (now (sheet .entry)) ⌝ }
-{
-    let v = check_write(list.len() as u64, sheet.len() as u64);
-    if refusal::refuses(v) {
-        return v;
-    }
-    write_head(text, data, list.len() as u32, sheet);
-    write_list(list, head_length(SheetForm::New), sheet);
     Verdict::Accepted
 }
 

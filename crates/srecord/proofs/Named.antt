@@ -11,7 +11,7 @@ use Rattle.refusal.specs.declared.Refusal.{Refusal}
 use Rattle.refusal.specs.declared.Refusal.the-variants as refusal
 use Rattle.refusal.specs.declared.RoomItem.the-variants.{RecordBuffer}
 use Rattle.refusal.proofs.Causes.{Causes, cause-if, cause-then}
-use Rattle.record_text.specs.Record.{firstBad, textLength}
+use Rattle.record.specs.Record.{firstBad, textLength}
 use Rattle.offset.specs.Named.{Named}
 use Rattle.offset.proofs.Named.{plain-named}
 use Rattle.history.specs.Plan.{Relocatable, Plan, planCheck}

@@ -42,7 +42,7 @@ use Rattle.loader.proofs.Accepted.{long-enough, loader-known}
 use Rattle.loadable.specs.declared.Loadable.{Loadable}
 use Rattle.loadable.specs.declared.LoadableAnswer.{LoadableAnswer}
 use Rattle.loadable.specs.declared.LoadableAnswer.the-variants as answer
-use Rattle.loadable.specs.Entries.{entriesCheck}
+use Rattle.loader_entries.specs.Entries.{entriesCheck}
 use Rattle.loadable.specs.Loadable.{loadableWith, loadableIn, loadableAt}
 use Rattle.loadable.proofs.Accepted.{loader-room}
 use Rattle.shared_range.specs.Shared.{Holds}

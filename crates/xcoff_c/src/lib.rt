@@ -150,7 +150,7 @@ pub extern "C" fn xcoff_module(file: &[u8]) -> ModuleReport
 pub extern "C" fn xcoff_loader_symbol(file: &[u8], i: u64) -> LoaderSymbolReport
     ensures { λ r. ⌜ r ≡ loaderSymbolReport (now (file .entry)) i ⌝ }
 {
-    lookup::report_loader_symbol(file, lookup::loader_symbol(file, i))
+    loader_lookup::report_loader_symbol(file, loader_lookup::loader_symbol(file, i))
 }
 
 // Its name.
@@ -158,7 +158,7 @@ pub extern "C" fn xcoff_loader_symbol(file: &[u8], i: u64) -> LoaderSymbolReport
 pub extern "C" fn xcoff_loader_symbol_name(file: &[u8], i: u64) -> RangeReport
     ensures { λ r. ⌜ r ≡ reportOfRange (now (file .entry)) (loaderNameAt (now (file .entry)) i) ⌝ }
 {
-    offset::report_range(file, lookup::loader_symbol_name_range(file, i))
+    offset::report_range(file, loader_lookup::loader_symbol_name_range(file, i))
 }
 
 // The path of import id `n`, from 0.
@@ -190,7 +190,7 @@ pub extern "C" fn xcoff_import_member(file: &[u8], n: u64) -> RangeReport
 pub extern "C" fn xcoff_sheet_head(sheet: &[u8]) -> SheetReport
     ensures { λ r. ⌜ r ≡ reportOfSheet (headAnswer (now (sheet .entry))) ⌝ }
 {
-    sheet::report_sheet(sheet::sheet_head(sheet))
+    sheet::report_sheet(plan_sheet::sheet_head(sheet))
 }
 
 // Reads a plan sheet into a list of exactly as many places as it has addresses.
@@ -199,7 +199,7 @@ pub extern "C" fn xcoff_read_sheet(sheet: &[u8], list: &mut [u64]) -> SheetRepor
     ensures answer { λ r. ⌜ r ≡ reportOfSheet (readAnswer (now (sheet .entry)) (length (now (list .entry)))) ⌝ }
     ensures list { λ _. ⌜ now (list .exit) ≡ readList (now (sheet .entry)) (now (list .entry)) ⌝ }
 {
-    sheet::report_sheet(sheet::read_sheet(sheet, list))
+    sheet::report_sheet(plan_sheet::read_sheet(sheet, list))
 }
 
 // Writes the sheet of a plan into a buffer of exactly its length.
@@ -208,7 +208,12 @@ pub extern "C" fn xcoff_write_sheet(text: u64, data: u64, list: &[u64], sheet: &
     ensures answer { λ r. ⌜ r ≡ sheetHead (writeCheck (length (now (list .entry))) (length (now (sheet .entry)))) ⌝ }
     ensures sheet { λ _. ⌜ now (sheet .exit) ≡ writeSheet text «data» (now (list .entry)) (now (sheet .entry)) ⌝ }
 {
-    sheet::report_head(sheet::write_sheet(VirtualAddress(text), VirtualAddress(data), list, sheet))
+    sheet::report_head(plan_sheet::write_sheet(
+        VirtualAddress(text),
+        VirtualAddress(data),
+        list,
+        sheet,
+    ))
 }
 
 // Builds the images of the module for a plan.
@@ -228,7 +233,10 @@ pub extern "C" fn xcoff_build(
         text: VirtualAddress(at),
         data: VirtualAddress(dataat),
     };
-    image::report_call(file, image::build_images(file, addresses, list, text, data))
+    image::report_call(
+        file,
+        module_images::build_images(file, addresses, list, text, data),
+    )
 }
 
 // Moves images from one plan to another, taking the buffers as they are.
@@ -257,7 +265,7 @@ pub extern "C" fn xcoff_move(
     };
     image::report_call(
         file,
-        image::move_images(file, from, list, to, tolist, text, data),
+        module_images::move_images(file, from, list, to, tolist, text, data),
     )
 }
 
@@ -272,7 +280,7 @@ pub extern "C" fn xcoff_replay(
     ensures answer { λ r. ⌜ r ≡ reportOfReplay (now (file .entry)) (replayAnswer (relocatableAt (now (file .entry))) (callsOf (now (script .entry))) (images (now (text .entry)) (now («data» .entry)))) ⌝ }
     ensures images { λ _. ⌜ images (now (text .exit)) (now («data» .exit)) ≡ bookImages (relocatableAt (now (file .entry))) (bookAfter (relocatableAt (now (file .entry))) (callsOf (now (script .entry))) (images (now (text .entry)) (now («data» .entry)))) ⌝ }
 {
-    replay::report_replay(file, replay::replay(file, script, text, data))
+    replay::report_replay(file, replay_calls::replay(file, script, text, data))
 }
 
 // How long the record text of a module's images for a plan is.
@@ -289,7 +297,7 @@ pub extern "C" fn xcoff_records_length(
         text: VirtualAddress(at),
         data: VirtualAddress(dataat),
     };
-    srecord::report_length(file, srecord::records_length(file, addresses, list))
+    srecord::report_length(file, module_records::records_length(file, addresses, list))
 }
 
 // Writes two images, as they are, as S-records for a plan.
@@ -312,7 +320,7 @@ pub extern "C" fn xcoff_write_records(
     };
     offset::report_head(
         file,
-        srecord::write_records(file, addresses, list, text, data, records),
+        module_records::write_records(file, addresses, list, text, data, records),
     )
 }
 
@@ -337,7 +345,7 @@ pub extern "C" fn xcoff_read_records(
     };
     offset::report_head(
         file,
-        srecord::read_records(file, addresses, list, records, text, data),
+        module_records::read_records(file, addresses, list, records, text, data),
     )
 }
 
@@ -403,7 +411,7 @@ pub extern "C" fn xcoff_find_line(file: &[u8], section: u64, address: u64) -> Li
 {
     line_lookup::report_line(
         file,
-        line_lookup::find_line(file, SectionNumber(section), address),
+        line_find::find_line(file, SectionNumber(section), address),
     )
 }
 
@@ -414,7 +422,7 @@ pub extern "C" fn xcoff_line_count(file: &[u8], section: u64) -> LineCountReport
 {
     line_lookup::report_count(
         file,
-        line_lookup::find_line_table(file, SectionNumber(section)),
+        line_find::find_line_table(file, SectionNumber(section)),
     )
 }
 
@@ -500,7 +508,7 @@ pub extern "C" fn xcoff_replay_object(
 pub extern "C" fn xcoff_salvage_count(file: &[u8]) -> CountReport
     ensures { λ r. ⌜ r ≡ reportOfCount (now (file .entry)) (countAnswer (now (file .entry))) ⌝ }
 {
-    salvage::report_count(file, salvage::salvage_count(file))
+    salvage::report_count(file, salvage_file::salvage_count(file))
 }
 
 // Writes a copy in which the walk reaches the table's end, and 8 bytes of report for each change.
@@ -510,7 +518,7 @@ pub extern "C" fn xcoff_salvage(file: &[u8], copy: &mut [u8], report: &mut [u8])
     ensures copied { λ _. ⌜ now (copy .exit) ≡ copyAfter (now (file .entry)) (now (copy .entry)) (length (now (report .entry))) ⌝ }
     ensures reported { λ _. ⌜ now (report .exit) ≡ reportAfter (now (file .entry)) (length (now (copy .entry))) (now (report .entry)) ⌝ }
 {
-    salvage::report_count(file, salvage::salvage(file, copy, report))
+    salvage::report_count(file, salvage_file::salvage(file, copy, report))
 }
 
 // Adds a bench's row to the address table, or replaces its address.

@@ -76,10 +76,10 @@ use Rattle.line_reader.proofs.reader as rd
 use Rattle.line_reader.proofs.reader.Symbol as rd-def
 use Rattle.line_reader.proofs.reader.Symbol.{name as #line-reader·reader}
 use Rattle.line_reader.proofs.reader.Met as rd-thm
-use Rattle.line.proofs.begin as bg
-use Rattle.line.proofs.begin.Symbol as bg-def
-use Rattle.line.proofs.begin.Symbol.{name as #line·begin}
-use Rattle.line.proofs.begin.Met as bg-thm
+use Rattle.line_search.proofs.begin as bg
+use Rattle.line_search.proofs.begin.Symbol as bg-def
+use Rattle.line_search.proofs.begin.Symbol.{name as #line-search·begin}
+use Rattle.line_search.proofs.begin.Met as bg-thm
 use Rattle.line_reader.proofs.has_entry as he
 use Rattle.line_reader.proofs.has_entry.Symbol as he-def
 use Rattle.line_reader.proofs.has_entry.Symbol.{name as #line-reader·has-entry}
@@ -88,10 +88,10 @@ use Rattle.line_reader.proofs.entry as en
 use Rattle.line_reader.proofs.entry.Symbol as en-def
 use Rattle.line_reader.proofs.entry.Symbol.{name as #line-reader·entry}
 use Rattle.line_reader.proofs.entry.Met as en-thm
-use Rattle.line.proofs.see as se
-use Rattle.line.proofs.see.Symbol as se-def
-use Rattle.line.proofs.see.Symbol.{name as #line·see}
-use Rattle.line.proofs.see.Met as se-thm
+use Rattle.line_search.proofs.see as se
+use Rattle.line_search.proofs.see.Symbol as se-def
+use Rattle.line_search.proofs.see.Symbol.{name as #line-search·see}
+use Rattle.line_search.proofs.see.Met as se-thm
 use Rattle.line_reader.proofs.step as sp
 use Rattle.line_reader.proofs.step.Symbol as sp-def
 use Rattle.line_reader.proofs.step.Symbol.{name as #line-reader·step}
@@ -326,7 +326,7 @@ module _ {M : Type 1} (𝓤 : URA M) (H : Heap 𝓤) (A : Atoms 𝓤) (W : Given
       frame ! $ nothing ! $ owned ! usize (Is usize) (uint-makes 𝓤 H A W w64) a _ (refl, oka) $ fjoin ! $ owned ! F.the-row (Is F.the-row) (EL.makes F.the-type F′.the-plain 𝓤 H A) f _ isf $ fjoin ! $ owned ! usize (Is usize) (uint-makes 𝓤 H A W w64) n _ (refl, okn) $ fjoin ! $ owned ! usize (Is usize) (uint-makes 𝓤 H A W w64) start _ (refl, oks) $ fjoin ! $ move ! (1 ∷ 0 ∷ []) $ fjoin ! $ frame ! $ owned ! S.the-row (Is S.the-row) (LL.makes S.the-type S′.the-plain 𝓤 H A) (st n) _ is $ done !
 
   module _ (𝓣 : Tables 𝓤 H)
-      (known-te : Triple 𝓤 (𝓣 .C #line·table-end) (TableEnd 𝓤 H A mem run)) (known-rd : Triple 𝓤 (𝓣 .C #line-reader·reader) (Make 𝓤 H A mem run)) (known-bg : Triple 𝓤 (𝓣 .C #line·begin) (Begin 𝓤 H A mem run)) (known-he : Triple 𝓤 (𝓣 .C #line-reader·has-entry) (HasEntry 𝓤 H A mem run)) (known-en : Triple 𝓤 (𝓣 .C #line-reader·entry) (Entry 𝓤 H A mem run)) (known-se : Triple 𝓤 (𝓣 .C #line·see) (See 𝓤 H A mem run)) (known-sp : Triple 𝓤 (𝓣 .C #line-reader·step) (Step 𝓤 H A mem run))
+      (known-te : Triple 𝓤 (𝓣 .C #line·table-end) (TableEnd 𝓤 H A mem run)) (known-rd : Triple 𝓤 (𝓣 .C #line-reader·reader) (Make 𝓤 H A mem run)) (known-bg : Triple 𝓤 (𝓣 .C #line-search·begin) (Begin 𝓤 H A mem run)) (known-he : Triple 𝓤 (𝓣 .C #line-reader·has-entry) (HasEntry 𝓤 H A mem run)) (known-en : Triple 𝓤 (𝓣 .C #line-reader·entry) (Entry 𝓤 H A mem run)) (known-se : Triple 𝓤 (𝓣 .C #line-search·see) (See 𝓤 H A mem run)) (known-sp : Triple 𝓤 (𝓣 .C #line-reader·step) (Step 𝓤 H A mem run))
       (l₀ l₁ l₂ l₃ l₄ l₅ l₆ l₇ l₈ l₉ l₁₀ l₁₁ l₁₂ l₁₃ : ℕ) where
     abbrev C : Calls 𝓤 H
     C = 𝓣 .C
@@ -477,10 +477,10 @@ module _ {M : Type 1} (𝓤 : URA M) (H : Heap 𝓤) (A : Atoms 𝓤) (W : Given
   -- the locals are made, and the arguments stored
   walk : (𝓣 : Tables 𝓤 H) → Triple 𝓤 (𝓣 .C #line·table-end) (TableEnd 𝓤 H A mem run)
       → Triple 𝓤 (𝓣 .C #line-reader·reader) (Make 𝓤 H A mem run)
-      → Triple 𝓤 (𝓣 .C #line·begin) (Begin 𝓤 H A mem run)
+      → Triple 𝓤 (𝓣 .C #line-search·begin) (Begin 𝓤 H A mem run)
       → Triple 𝓤 (𝓣 .C #line-reader·has-entry) (HasEntry 𝓤 H A mem run)
       → Triple 𝓤 (𝓣 .C #line-reader·entry) (Entry 𝓤 H A mem run)
-      → Triple 𝓤 (𝓣 .C #line·see) (See 𝓤 H A mem run)
+      → Triple 𝓤 (𝓣 .C #line-search·see) (See 𝓤 H A mem run)
       → Triple 𝓤 (𝓣 .C #line-reader·step) (Step 𝓤 H A mem run)
       → ent 𝓤 (onEntry 𝓤 H A pass.signature (κ, tt) (q, tt) args at) (WpFn 𝓤 H (𝓣 .C) (𝓣 .Λ) fn (v ∷ vint w64 start ∷ vint w64 n ∷ fv ∷ vint w64 a ∷ []) Post)
   walk 𝓣 known-te known-rd known-bg known-he known-en known-se known-sp =
@@ -490,7 +490,7 @@ module _ {M : Type 1} (𝓤 : URA M) (H : Heap 𝓤) (A : Atoms 𝓤) (W : Given
       by ! (stored 𝓣 known-te known-rd known-bg known-he known-en known-se known-sp l₀ l₁ l₂ l₃ l₄ l₅ l₆ l₇ l₈ l₉ l₁₀ l₁₁ l₁₂ l₁₃)))))))))))))))
 
 module _ {M : Type 1} (𝓤 : URA M) (H : Heap 𝓤) (A : Atoms 𝓤) (W : Given 𝓤 H A) (mem : Memory → SProp 𝓤) (run : Routine → Fun 𝓤) (𝓣 : Tables 𝓤 H)
-    (known-te : Triple 𝓤 (𝓣 .C #line·table-end) (TableEnd 𝓤 H A mem run)) (known-rd : Triple 𝓤 (𝓣 .C #line-reader·reader) (Make 𝓤 H A mem run)) (known-bg : Triple 𝓤 (𝓣 .C #line·begin) (Begin 𝓤 H A mem run)) (known-he : Triple 𝓤 (𝓣 .C #line-reader·has-entry) (HasEntry 𝓤 H A mem run)) (known-en : Triple 𝓤 (𝓣 .C #line-reader·entry) (Entry 𝓤 H A mem run)) (known-se : Triple 𝓤 (𝓣 .C #line·see) (See 𝓤 H A mem run)) (known-sp : Triple 𝓤 (𝓣 .C #line-reader·step) (Step 𝓤 H A mem run)) where
+    (known-te : Triple 𝓤 (𝓣 .C #line·table-end) (TableEnd 𝓤 H A mem run)) (known-rd : Triple 𝓤 (𝓣 .C #line-reader·reader) (Make 𝓤 H A mem run)) (known-bg : Triple 𝓤 (𝓣 .C #line-search·begin) (Begin 𝓤 H A mem run)) (known-he : Triple 𝓤 (𝓣 .C #line-reader·has-entry) (HasEntry 𝓤 H A mem run)) (known-en : Triple 𝓤 (𝓣 .C #line-reader·entry) (Entry 𝓤 H A mem run)) (known-se : Triple 𝓤 (𝓣 .C #line-search·see) (See 𝓤 H A mem run)) (known-sp : Triple 𝓤 (𝓣 .C #line-reader·step) (Step 𝓤 H A mem run)) where
   pass-walks : Walks 𝓤 H A pass.ended stayed (WpFn 𝓤 H (𝓣 .C) (𝓣 .Λ) fn) (pass.clauses 𝓤 H A mem run)
   pass-walks = walked 𝓤 H A pass.ended stayed (pass.clauses 𝓤 H A mem run) (WpFn 𝓤 H (𝓣 .C) (𝓣 .Λ) fn) (λ κs. (slice-vals, (uint-vals w64, (uint-vals w64, (EL.vals F.the-type F′.the-laws, (uint-vals w64, tt)))))) (λ κs. (shr-slice-tells (named 0) (κs .0) u8, (uint-tells w64, (uint-tells w64, (EL.tells F.the-type F′.the-laws, (uint-tells w64, tt))))))
       (λ κs qs bounds x g are. needs 𝓤 _ _ (λ ok. walk 𝓤 H A W mem run (κs .0) (qs .0) (x .0) (x .1 .0) (x .1 .1 .0) (x .1 .1 .1 .0) (x .1 .1 .1 .1 .0) (are .0) (are .1 .0 .1) (are .1 .1 .0 .1) (are .1 .1 .1 .0) (are .1 .1 .1 .1 .0 .1) ok 𝓣 known-te known-rd known-bg known-he known-en known-se known-sp))
@@ -507,8 +507,8 @@ pass-spec 𝓤 H 𝓜 𝓖 𝓡 =
     (pass-meets 𝓤 H (𝓖 .A) (givenOf 𝓤 H 𝓜 𝓖) (𝓜 .mem) (𝓡 .run) (tablesOf 𝓤 H 𝓜 (tables 𝓤 H 𝓜 𝓡 code.env))
     (cited 𝓤 H (TableEnd 𝓤 H (𝓖 .A) (𝓜 .mem) (𝓡 .run)) 𝓜 𝓡 code.env #line·table-end te-def.routine code.calls-line·table-end (te-thm.met 𝓤 H 𝓜 𝓖 𝓡))
     (cited 𝓤 H (Make 𝓤 H (𝓖 .A) (𝓜 .mem) (𝓡 .run)) 𝓜 𝓡 code.env #line-reader·reader rd-def.routine code.calls-line-reader·reader (rd-thm.met 𝓤 H 𝓜 𝓖 𝓡))
-    (cited 𝓤 H (Begin 𝓤 H (𝓖 .A) (𝓜 .mem) (𝓡 .run)) 𝓜 𝓡 code.env #line·begin bg-def.routine code.calls-line·begin (bg-thm.met 𝓤 H 𝓜 𝓖 𝓡))
+    (cited 𝓤 H (Begin 𝓤 H (𝓖 .A) (𝓜 .mem) (𝓡 .run)) 𝓜 𝓡 code.env #line-search·begin bg-def.routine code.calls-line-search·begin (bg-thm.met 𝓤 H 𝓜 𝓖 𝓡))
     (cited 𝓤 H (HasEntry 𝓤 H (𝓖 .A) (𝓜 .mem) (𝓡 .run)) 𝓜 𝓡 code.env #line-reader·has-entry he-def.routine code.calls-line-reader·has-entry (he-thm.met 𝓤 H 𝓜 𝓖 𝓡))
     (cited 𝓤 H (Entry 𝓤 H (𝓖 .A) (𝓜 .mem) (𝓡 .run)) 𝓜 𝓡 code.env #line-reader·entry en-def.routine code.calls-line-reader·entry (en-thm.met 𝓤 H 𝓜 𝓖 𝓡))
-    (cited 𝓤 H (See 𝓤 H (𝓖 .A) (𝓜 .mem) (𝓡 .run)) 𝓜 𝓡 code.env #line·see se-def.routine code.calls-line·see (se-thm.met 𝓤 H 𝓜 𝓖 𝓡))
+    (cited 𝓤 H (See 𝓤 H (𝓖 .A) (𝓜 .mem) (𝓡 .run)) 𝓜 𝓡 code.env #line-search·see se-def.routine code.calls-line-search·see (se-thm.met 𝓤 H 𝓜 𝓖 𝓡))
     (cited 𝓤 H (Step 𝓤 H (𝓖 .A) (𝓜 .mem) (𝓡 .run)) 𝓜 𝓡 code.env #line-reader·step sp-def.routine code.calls-line-reader·step (sp-thm.met 𝓤 H 𝓜 𝓖 𝓡)))

@@ -10,7 +10,7 @@
 //! those of the address table in `benches`, those of moved modules in `rewrites`,
 //! those of salvage in `salvages`.
 
-use super::make::{self, top, Aux, Field, Head, Made, Part, Wish};
+use super::make::{self, top, Aux, Field, Head, Made, MadeEntry, Part, Wish};
 use super::plans::{buffers, fitting_plan, past_end, reveal_module, reveal_open};
 use super::rng::Rng;
 use super::{
@@ -752,15 +752,9 @@ pub static STEPS: &[Step] = &[
         of_entry(made, LREL, i)
     }),
     step("overlap", OVERLAP, 26, |made, rng| {
-        let later = rng.between(1, made.entries.len() as u64 - 1) as usize;
-        let earlier = rng.below(later as u64) as usize;
+        let (earlier, later) = two_entries(made, rng);
         let (one, other) = (made.entries[earlier].clone(), made.entries[later].clone());
-        let (start, size) = if one.section == made.text {
-            (made.text_address, made.text_size)
-        } else {
-            (made.data_address, made.data_size)
-        };
-        let end = u128::from(start) + u128::from(size);
+        let (start, end) = section_of(made, &one);
         // The later one starts inside the earlier one, or the other way round.
         let address = if rng.chance(50) {
             u128::from(one.address) + u128::from(rng.below(one.width / 8))
@@ -777,15 +771,9 @@ pub static STEPS: &[Step] = &[
         of_entry(made, OVERLAP, later)
     }),
     step("overlap at the same start", OVERLAP, 26, |made, rng| {
-        let later = rng.between(1, made.entries.len() as u64 - 1) as usize;
-        let earlier = rng.below(later as u64) as usize;
+        let (earlier, later) = two_entries(made, rng);
         let (one, other) = (made.entries[earlier].clone(), made.entries[later].clone());
-        let (start, size) = if one.section == made.text {
-            (made.text_address, made.text_size)
-        } else {
-            (made.data_address, made.data_size)
-        };
-        let end = u128::from(start) + u128::from(size);
+        let (_, end) = section_of(made, &one);
         if one.width == other.width || u128::from(one.address) + u128::from(other.width / 8) > end {
             return None;
         }
@@ -1581,6 +1569,22 @@ pub(super) fn spoil(
             Some(1)
         }
     }
+}
+
+/// Two entries, the earlier one first.
+fn two_entries(made: &Made, rng: &mut Rng) -> (usize, usize) {
+    let later = rng.between(1, made.entries.len() as u64 - 1) as usize;
+    (rng.below(later as u64) as usize, later)
+}
+
+/// Where the section of an entry's field starts and ends.
+fn section_of(made: &Made, entry: &MadeEntry) -> (u64, u128) {
+    let (start, size) = if entry.section == made.text {
+        (made.text_address, made.text_size)
+    } else {
+        (made.data_address, made.data_size)
+    };
+    (start, u128::from(start) + u128::from(size))
 }
 
 /// Offsets past the file's end: by one, by two, the highest, and one of its upper half.

@@ -167,27 +167,15 @@ fn any_address(rng: &mut Rng, made: &Made, n: u64) -> u64 {
 
 fn asked(rng: &mut Rng, made: Made, n: u64, number: u64, item: u64) -> Option<Hurt> {
     let address = rng.pick(&[0, u64::MAX, 0x1000_0100]);
-    hurt(
-        made,
-        Op::FindLine {
-            section: n,
-            address,
-        },
-        number,
-        item,
-    )
+    hurt(made, find_line(n, address), number, item)
+}
+
+fn find_line(section: u64, address: u64) -> Op {
+    Op::FindLine { section, address }
 }
 
 fn find(made: Made, n: u64, address: u64, number: u64) -> Option<Hurt> {
-    hurt(
-        made,
-        Op::FindLine {
-            section: n,
-            address,
-        },
-        number,
-        0,
-    )
+    hurt(made, find_line(n, address), number, 0)
 }
 
 fn find_any(rng: &mut Rng, made: Made, n: u64, number: u64) -> Option<Hurt> {
@@ -202,10 +190,7 @@ fn bounds(rng: &mut Rng, made: Made, n: u64) -> Option<Hurt> {
         item: n,
         offset: made.section_at(n) as u64,
     };
-    let op = Op::FindLine {
-        section: n,
-        address,
-    };
+    let op = find_line(n, address);
     Some(Hurt { made, op, refusal })
 }
 

@@ -69,9 +69,7 @@ pub fn check(args: &Arguments) -> Result<(), Problem> {
         .map(Sheet::read)
         .collect::<Result<Vec<_>, _>>()?;
     let given = Given::read(args, &file, &sheets)?;
-    for sheet in &sheets {
-        warnings::of_sheet(&file, sheet)?;
-    }
+    warnings::of_sheets(&file, &sheets)?;
     let mut equal = Vec::new();
     let mut lines = Vec::new();
     for sheet in &sheets {

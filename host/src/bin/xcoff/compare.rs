@@ -5,7 +5,7 @@ use crate::found::Found;
 use crate::listing::{hex, number, word, Cell, Listing};
 use crate::lists::image_word;
 use crate::load::{Loaded, Pair, Sheet};
-use crate::output::{complain, refused_in};
+use crate::output::complain;
 use crate::problem::Problem;
 use std::ops::Range;
 use xcoff::{Image, Relocation};
@@ -38,8 +38,7 @@ pub struct Beside<'a> {
 
 impl Fields {
     pub fn of(file: &Loaded) -> Result<Fields, Problem> {
-        let fields = xcoff::relocation_table(&file.bytes);
-        let mut fields = refused_in(file.path, &file.bytes, fields)?;
+        let mut fields = file.entries()?;
         fields.sort_by_key(|f| (f.image, f.offset));
         fields.dedup_by_key(|f| (f.image, f.offset));
         Ok(Fields(fields))
@@ -70,14 +69,13 @@ impl Fields {
         self.wrong(found, expected).count() == 0
     }
 
-    /// The expected images with the found fields in them: what else differs is no field.
-    pub fn put_into(&self, expected: &Pair, found: &Pair) -> Pair {
-        let mut mixed = expected.clone();
-        for f in &self.0 {
-            let range = range_of(f);
-            mixed.image_mut(f.image)[range].copy_from_slice(bytes_of(found, f));
-        }
-        mixed
+    /// What lies before, between and after the fields of one image.
+    fn gaps(&self, image: Image, length: usize) -> Vec<Range<usize>> {
+        let fields = self.0.iter().filter(|f| f.image == image).map(range_of);
+        let ends = fields.chain([length..length]);
+        let mut start = 0;
+        ends.map(|next| std::mem::replace(&mut start, next.end)..next.start)
+            .collect()
     }
 
     /// The first of these fields, a line for each, with their addresses in the sheet's plan.
@@ -148,10 +146,11 @@ fn difference(found: &[u8], expected: &[u8]) -> Option<Difference> {
     })
 }
 
-/// Where two images of the same length differ: bytes that follow each other as one.
-pub fn runs(found: &[u8], expected: &[u8]) -> Vec<Range<usize>> {
+/// Where two images of the same length differ in these places: bytes that follow each other as one.
+pub fn runs(found: &[u8], expected: &[u8], places: Vec<Range<usize>>) -> Vec<Range<usize>> {
     let mut runs: Vec<Range<usize>> = Vec::new();
-    for at in (0..found.len()).filter(|&at| found[at] != expected[at]) {
+    let places = places.into_iter().flatten();
+    for at in places.filter(|&at| found[at] != expected[at]) {
         match runs.last_mut() {
             Some(last) if last.end == at => last.end += 1,
             _ => runs.push(at..at + 1),
@@ -259,9 +258,9 @@ impl<'a> Beside<'a> {
 
     /// Bytes outside the relocated fields that are not the module's: for each image that has some, how many and where.
     fn changes(&self) -> Vec<String> {
-        let mixed = self.fields.put_into(&self.expected, &self.found.pair);
         let change = |image: Image| {
-            let runs = runs(self.found.pair.image(image), mixed.image(image));
+            let (found, expected) = (self.found.pair.image(image), self.expected.image(image));
+            let runs = runs(found, expected, self.fields.gaps(image, found.len()));
             let count = runs.iter().map(|run| run.len()).sum::<usize>();
             let (bytes, are) = match count {
                 0 => return None,

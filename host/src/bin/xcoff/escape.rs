@@ -1,5 +1,6 @@
 //! Bytes of others as text that is safe to print: no name reaches a terminal as it stands.
 
+use crate::listing::push_digits;
 use std::os::unix::ffi::OsStrExt;
 use std::path::Path;
 
@@ -33,7 +34,8 @@ pub fn push_name(bytes: &[u8], out: &mut String) {
 }
 
 fn push_hex(byte: u8, out: &mut String) {
-    out.push_str(&format!("\\x{byte:02x}"));
+    out.push_str("\\x");
+    push_digits::<16>(out, byte.into(), 2);
 }
 
 /// How many characters [`name`] has.

@@ -5,7 +5,7 @@
 use crate::compare::Beside;
 use crate::escape;
 use crate::follows::field;
-use crate::output::refused_in;
+use crate::load::Loaded;
 use crate::problem::Problem;
 use std::collections::BTreeMap;
 use xcoff::{Image, LoaderRow, PlanAddress, Relocation};
@@ -35,12 +35,8 @@ pub fn lines(beside: &Beside) -> Result<Vec<String>, Problem> {
         return Ok(Vec::new());
     }
     let file = beside.file;
-    let symbols = refused_in(
-        file.path,
-        &file.bytes,
-        xcoff::loader_symbol_table(&file.bytes),
-    )?;
-    let shares = shares(beside, &amounts)?;
+    let symbols = file.symbols()?;
+    let shares = shares(file, &symbols, &amounts)?;
     let explained = shares.iter().filter_map(|(&address, shares)| {
         let value = proposed(shares, amounts.len(), address.of(&beside.sheet.plan))?;
         confirmed(beside, &symbols, address, value)
@@ -50,13 +46,13 @@ pub fn lines(beside: &Beside) -> Result<Vec<String>, Problem> {
 
 /// Of each address that is named, its fields; `amounts` are of those that differ.
 fn shares(
-    beside: &Beside,
+    file: &Loaded,
+    symbols: &[LoaderRow],
     amounts: &BTreeMap<(Image, u64), u64>,
 ) -> Result<BTreeMap<PlanAddress, Shares>, Problem> {
-    let file = beside.file;
-    let followed = refused_in(file.path, &file.bytes, xcoff::followed(&file.bytes))?;
+    let followed = file.module.followed(symbols);
     let mut all: BTreeMap<PlanAddress, Shares> = BTreeMap::new();
-    for entry in refused_in(file.path, &file.bytes, xcoff::relocation_table(&file.bytes))? {
+    for entry in file.entries()? {
         let Some(address) = followed[entry.symbol as usize] else {
             continue;
         };

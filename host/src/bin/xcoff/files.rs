@@ -18,8 +18,11 @@ pub const IMPORTS: u64 = 16_777_216;
 /// The first bytes of a file, at most so many.
 pub fn read(path: &Path, most: u64) -> Result<Vec<u8>, Problem> {
     let read = || {
-        let mut bytes = Vec::new();
-        File::open(path)?.take(most).read_to_end(&mut bytes)?;
+        let file = File::open(path)?;
+        // As long as the system says that it is: what grows piece by piece takes up to twice that.
+        let length = file.metadata().map_or(0, |data| data.len());
+        let mut bytes = Vec::with_capacity(length.min(most) as usize);
+        file.take(most).read_to_end(&mut bytes)?;
         Ok(bytes)
     };
     read().map_err(|e| Problem::system(format!("cannot read {}", escape::argument(path)), &e))

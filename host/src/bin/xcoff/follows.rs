@@ -3,13 +3,11 @@
 use crate::args::Arguments;
 use crate::escape;
 use crate::imports::Choice;
-use crate::output::refused_in;
 use crate::problem::Problem;
 use std::collections::BTreeSet;
 use std::ffi::OsStr;
 use std::os::unix::ffi::OsStrExt;
-use std::path::Path;
-use xcoff::{Image, LoaderRow, PlanAddress, Relocation};
+use xcoff::{Image, LoaderRow, Module, PlanAddress, Relocation};
 
 /// Fields by their image and the offset in it; none: every field.
 pub struct Selected(Option<BTreeSet<(Image, u64)>>);
@@ -18,7 +16,7 @@ impl Selected {
     /// Those with at least one entry that names what follows the address given.
     pub fn read(
         args: &Arguments,
-        (path, file): (&Path, &[u8]),
+        module: &Module,
         symbols: &[LoaderRow],
         entries: &[Relocation],
     ) -> Result<Selected, Problem> {
@@ -26,7 +24,7 @@ impl Selected {
             return Ok(Selected(None));
         };
         let address = address(args, &value[0], symbols)?;
-        let followed = refused_in(path, file, xcoff::followed(file))?;
+        let followed = module.followed(symbols);
         let named = |e: &&Relocation| followed[e.symbol as usize] == Some(address);
         let fields = entries.iter().filter(named).map(field);
         Ok(Selected(Some(fields.collect())))

@@ -151,9 +151,9 @@ pub fn move_images(args: &Arguments) -> Result<(), Problem> {
     let from = Sheet::read(args.path(1))?;
     let to = Sheet::read(args.path(2))?;
     let found = Found::read(text, data)?;
-    let (moved, reached) = found.moved(&file, &from, &to)?;
+    let (mut moved, reached) = found.moved(&file, &from, &to)?;
     if !args.has("--unchecked") {
-        check_before(args, &file, &from, &to, &found)?;
+        check_before(args, &file, [&from, &to], &found, &mut moved)?;
     }
     let made = Made {
         done: "moved",
@@ -164,28 +164,29 @@ pub fn move_images(args: &Arguments) -> Result<(), Problem> {
         reached: &reached,
     };
     made.write(args, || found.unchanged())?;
-    warnings::of_sheet(&file, &from)?;
-    warnings::of_sheet(&file, &to)?;
+    warnings::of_sheets(&file, [&from, &to])?;
     made.say(args)
 }
 
 /// Images may only be moved from the plan they are for: the library moves whatever it finds, and images that are moved
-/// twice are wrong without a sign of it.
+/// twice are wrong without a sign of it. Where they are not, `moved` is of no use and lends its room.
 fn check_before(
     args: &Arguments,
     file: &Loaded,
-    from: &Sheet,
-    to: &Sheet,
+    [from, to]: [&Sheet; 2],
     found: &Found,
+    moved: &mut Pair,
 ) -> Result<(), Problem> {
     let beside = Beside::new(file, from, found)?;
     if beside.fields_equal() {
         return beside.all_equal_or_kept(args.has("--keep-changes"));
     }
-    let (reached, _) = file.build_sheet(to)?;
+    let built = xcoff::build_images(&file.bytes, &to.plan, &mut moved.text, &mut moved.data);
+    file.with_sheet(to, built)?;
+    let reached = &*moved;
     let [old, new] = [from, to].map(|sheet| escape::argument(sheet.path));
-    if beside.fields.equal(&found.pair, &reached) {
-        let fields = match found.pair == reached {
+    if beside.fields.equal(&found.pair, reached) {
+        let fields = match found.pair == *reached {
             true => "these images are for",
             false => "the relocated fields of these images are those of",
         };
@@ -194,7 +195,7 @@ fn check_before(
             found.names()
         )]));
     }
-    let more = interrupted(&beside, to, &reached).unwrap_or_else(|| {
+    let more = interrupted(&beside, to, reached).unwrap_or_else(|| {
         format!("xcoff: they are for neither {old} nor {new}; xcoff check --or finds the sheet that images are for")
     });
     Err(beside.not_its_fields([more]))

@@ -159,16 +159,17 @@ impl<'w> Listing<'w> {
     }
 
     fn json_row(&mut self, cells: &[Cell]) {
-        push(
-            &mut self.line,
-            format_args!("{{\"table\":\"{}\"", self.table),
-        );
+        for text in ["{\"table\":\"", self.table, "\""] {
+            self.line.push_str(text);
+        }
         if let Some(file) = self.file {
             self.line.push_str(",\"file\":");
             push_json_text(&mut self.line, &escape::argument(file));
         }
         for (column, cell) in self.columns.iter().zip(cells) {
-            push(&mut self.line, format_args!(",\"{}\":", column.name));
+            for text in [",\"", column.name, "\":"] {
+                self.line.push_str(text);
+            }
             push_json(&mut self.line, column, cell);
         }
         self.line.push('}');
@@ -184,19 +185,26 @@ fn pad(line: &mut String, column: &Column, cell: &str) {
     if !line.is_empty() {
         line.push_str("  ");
     }
-    let width = column.width();
+    let blanks = column.width().saturating_sub(cell.chars().count());
+    let blanks = std::iter::repeat_n(' ', blanks);
     match column.shape {
-        Shape::Right(_) => push(line, format_args!("{cell:>width$}")),
-        _ => push(line, format_args!("{cell:<width$}")),
+        Shape::Right(_) => {
+            line.extend(blanks);
+            line.push_str(cell);
+        }
+        _ => {
+            line.push_str(cell);
+            line.extend(blanks);
+        }
     }
 }
 
 fn push_text(out: &mut String, column: &Column, cell: &Cell) {
     match cell {
         Cell::Hex(value) => push_hex(out, column, *value),
-        Cell::Number(value) => push(out, format_args!("{value}")),
+        Cell::Number(value) => push_decimal(out, *value),
         Cell::Named(_, Some(word)) => out.push_str(word),
-        Cell::Named(value, None) => push(out, format_args!("{value}")),
+        Cell::Named(value, None) => push_signed(out, *value),
         Cell::Word(word) => out.push_str(word),
         Cell::Name(bytes) => escape::push_name(bytes, out),
         Cell::Path(path) => out.push_str(&escape::argument(path)),
@@ -213,13 +221,17 @@ fn push_json(out: &mut String, column: &Column, cell: &Cell) {
             push_hex(out, column, *value);
             out.push('"');
         }
-        Cell::Number(value) => push(out, format_args!("{value}")),
-        Cell::Named(value, _) => push(out, format_args!("{value}")),
-        Cell::Word(word) => push(out, format_args!("\"{word}\"")),
+        Cell::Number(value) => push_decimal(out, *value),
+        Cell::Named(value, _) => push_signed(out, *value),
+        Cell::Word(word) => {
+            out.push('"');
+            out.push_str(word);
+            out.push('"');
+        }
         Cell::Name(bytes) => push_json_name(out, column, bytes),
         Cell::Path(path) => push_json_text(out, &escape::argument(path)),
-        Cell::Flag(yes) => push(out, format_args!("{yes}")),
-        Cell::Time(seconds) => push(out, format_args!("{seconds}")),
+        Cell::Flag(yes) => out.push_str(if *yes { "true" } else { "false" }),
+        Cell::Time(seconds) => push_decimal(out, *seconds),
         Cell::Nothing => out.push_str("null"),
     }
 }
@@ -229,7 +241,31 @@ fn push_hex(out: &mut String, column: &Column, value: u64) {
         Shape::Hex(digits) => digits,
         _ => 1,
     };
-    push(out, format_args!("{value:0digits$x}"));
+    push_digits::<16>(out, value, digits);
+}
+
+fn push_decimal(out: &mut String, value: u64) {
+    push_digits::<10>(out, value, 1);
+}
+
+fn push_signed(out: &mut String, value: i64) {
+    if value < 0 {
+        out.push('-');
+    }
+    push_decimal(out, value.unsigned_abs());
+}
+
+/// A number in digits, at least so many: a listing has millions of them, and a format is read anew for each.
+pub fn push_digits<const BASE: u64>(out: &mut String, mut value: u64, least: usize) {
+    let mut digits = [b'0'; 20];
+    let mut first = digits.len();
+    while value > 0 {
+        first -= 1;
+        digits[first] = b"0123456789abcdef"[(value % BASE) as usize];
+        value /= BASE;
+    }
+    let shown = &digits[first.min(digits.len() - least)..];
+    out.push_str(std::str::from_utf8(shown).expect("digits are ASCII"));
 }
 
 /// A name's bytes as the characters U+0000 to U+00FF, and whether it is cut.
@@ -237,9 +273,12 @@ fn push_json_name(out: &mut String, column: &Column, bytes: &[u8]) {
     out.push('"');
     for &byte in &bytes[..bytes.len().min(escape::MOST)] {
         match byte {
-            b'"' | b'\\' => push(out, format_args!("\\{}", byte as char)),
-            b' '..=b'~' => out.push(byte as char),
-            _ => push(out, format_args!("\\u{byte:04x}")),
+            b'"' | b'\\' => out.extend(['\\', char::from(byte)]),
+            b' '..=b'~' => out.push(char::from(byte)),
+            _ => {
+                out.push_str("\\u");
+                push_digits::<16>(out, byte.into(), 4);
+            }
         }
     }
     out.push('"');

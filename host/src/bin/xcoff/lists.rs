@@ -161,7 +161,7 @@ fn section_row(list: &mut Listing, n: u64, section: &Section, name: &[u8]) -> io
 fn module_of(args: &Arguments, path: &Path) -> Result<(), Problem> {
     let file = files::read(path, files::FILE)?;
     let module = refused_in(path, &file, xcoff::module(&file))?;
-    let symbols = refused_in(path, &file, xcoff::loader_symbol_table(&file))?;
+    let symbols = refused_in(path, &file, module.loader_symbol_table(&file))?;
     print(|out| {
         let mut list = open(args, out, path);
         module_row(&mut list, &module)?;
@@ -281,8 +281,8 @@ pub fn use_word(row: &LoaderRow) -> &'static str {
 fn imports_of(args: &Arguments, path: &Path) -> Result<(), Problem> {
     let file = files::read(path, files::FILE)?;
     let module = refused_in(path, &file, xcoff::module(&file))?;
-    let ids = refused_in(path, &file, xcoff::import_table(&file))?;
-    let symbols = refused_in(path, &file, xcoff::loader_symbol_table(&file))?;
+    let ids = refused_in(path, &file, module.import_table(&file))?;
+    let symbols = refused_in(path, &file, module.loader_symbol_table(&file))?;
     let id_columns = vec![
         number("id", module.ids),
         names("path", ids.rows().map(|id| id.path)),
@@ -330,9 +330,9 @@ fn imported(list: &mut Listing, m: &Module, symbols: &[LoaderRow]) -> io::Result
 fn relocations_of(args: &Arguments, path: &Path) -> Result<(), Problem> {
     let file = files::read(path, files::FILE)?;
     let module = refused_in(path, &file, xcoff::module(&file))?;
-    let symbols = refused_in(path, &file, xcoff::loader_symbol_table(&file))?;
-    let entries = refused_in(path, &file, xcoff::relocation_table(&file))?;
-    let selected = Selected::read(args, (path, &file), &symbols, &entries)?;
+    let symbols = refused_in(path, &file, module.loader_symbol_table(&file))?;
+    let entries = refused_in(path, &file, module.relocation_table(&file))?;
+    let selected = Selected::read(args, &module, &symbols, &entries)?;
     let columns = vec![
         number("entry", module.relocations),
         hex("address", digits(module.format)),

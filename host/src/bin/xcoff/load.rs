@@ -8,7 +8,7 @@ use crate::lists;
 use crate::output::refused_in;
 use crate::problem::Problem;
 use std::path::Path;
-use xcoff::{Image, Module, Plan, Reached, Refusal};
+use xcoff::{Image, LoaderRow, Module, Plan, Reached, Refusal, Relocation};
 
 /// A file that is accepted as a module.
 pub struct Loaded<'p> {
@@ -43,6 +43,17 @@ impl<'p> Loaded<'p> {
 
     pub fn digits(&self) -> usize {
         lists::digits(self.module.format)
+    }
+
+    /// The file is judged once more; so it is for each call below.
+    pub fn symbols(&self) -> Result<Vec<LoaderRow<'_>>, Problem> {
+        let symbols = self.module.loader_symbol_table(&self.bytes);
+        refused_in(self.path, &self.bytes, symbols)
+    }
+
+    pub fn entries(&self) -> Result<Vec<Relocation>, Problem> {
+        let entries = self.module.relocation_table(&self.bytes);
+        refused_in(self.path, &self.bytes, entries)
     }
 
     /// Room for both images.
@@ -136,13 +147,6 @@ impl Pair {
         match image {
             Image::Text => &self.text,
             Image::Data => &self.data,
-        }
-    }
-
-    pub fn image_mut(&mut self, image: Image) -> &mut [u8] {
-        match image {
-            Image::Text => &mut self.text,
-            Image::Data => &mut self.data,
         }
     }
 }

@@ -10,7 +10,7 @@ use crate::listing::{hex, number, word, Cell, Listing};
 use crate::lists::image_word;
 use crate::load::{apart, Loaded, Sheet};
 use crate::lock;
-use crate::output::{print, refused_in, say_done};
+use crate::output::{print, say_done};
 use crate::picture;
 use crate::problem::Problem;
 use crate::warnings;
@@ -89,11 +89,9 @@ pub fn map(args: &Arguments) -> Result<(), Problem> {
 impl<'a> Map<'a> {
     fn of(file: &'a Loaded, sheet: &'a Sheet) -> Result<Map<'a>, Problem> {
         let (_, reached) = file.build_sheet(sheet)?;
-        let symbols = xcoff::loader_symbol_table(&file.bytes);
-        let symbols = refused_in(file.path, &file.bytes, symbols)?;
-        let followed = refused_in(file.path, &file.bytes, xcoff::followed(&file.bytes))?;
-        let entries = xcoff::relocation_table(&file.bytes);
-        let entries = refused_in(file.path, &file.bytes, entries)?;
+        let symbols = file.symbols()?;
+        let followed = file.module.followed(&symbols);
+        let entries = file.entries()?;
         let mut fields: BTreeMap<(Image, u64), Follows> = BTreeMap::new();
         let mut counts: BTreeMap<u64, std::collections::BTreeSet<(Image, u64)>> = BTreeMap::new();
         for entry in &entries {

@@ -133,7 +133,8 @@ impl<'a> PlacedBeside<'a> {
 
     /// Bytes outside the relocated fields that are not the file's: how many and where.
     fn changes(&self) -> Option<String> {
-        let runs = runs(&self.found.bytes, &self.mixed);
+        let whole = vec![0..self.mixed.len()];
+        let runs = runs(&self.found.bytes, &self.mixed, whole);
         let count = runs.iter().map(|run| run.len()).sum::<usize>();
         let (bytes, are) = match count {
             0 => return None,

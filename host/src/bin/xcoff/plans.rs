@@ -10,7 +10,7 @@ use crate::listing::{hex, number, word, Cell, Column, Listing};
 use crate::lists::use_word;
 use crate::load::{apart, Loaded, Sheet};
 use crate::lock;
-use crate::output::{print, print_done, reached_words, refused, refused_in};
+use crate::output::{print, print_done, reached_words, refused};
 use crate::problem::Problem;
 use crate::table;
 use crate::warnings;
@@ -88,8 +88,7 @@ impl Wanted<'_> {
     pub fn write(&self, args: &Arguments) -> Result<(), Problem> {
         let _lock = lock::to_write(args, &[self.out])?;
         let file = Loaded::read(self.file)?;
-        let symbols = xcoff::loader_symbol_table(&file.bytes);
-        let symbols = refused_in(file.path, &file.bytes, symbols)?;
+        let symbols = file.symbols()?;
         let start = Start::new(self.from, &file, &symbols)?;
         let mut plan = start.plan.clone();
         plan.text = self.text.unwrap_or(plan.text);
@@ -338,8 +337,7 @@ pub fn sheet(args: &Arguments) -> Result<(), Problem> {
         });
     };
     let file = Loaded::read(path)?;
-    let symbols = xcoff::loader_symbol_table(&file.bytes);
-    let symbols = refused_in(path, &file.bytes, symbols)?;
+    let symbols = file.symbols()?;
     file.build_sheet(&sheet)?;
     warnings::of_sheet(&file, &sheet)?;
     let digits = file.digits();

@@ -54,8 +54,7 @@ struct Moved<'a> {
 
 impl<'a> Moved<'a> {
     fn new(file: &'a Loaded, sheet: &'a Sheet) -> Result<Moved<'a>, Problem> {
-        let symbols = xcoff::loader_symbol_table(&file.bytes);
-        let symbols = refused_in(file.path, &file.bytes, symbols)?;
+        let symbols = file.symbols()?;
         let (_, reached) = file.build_sheet(sheet)?;
         let mut module = file.module;
         let by_data = sheet.plan.data.wrapping_sub(module.data.address);
@@ -107,8 +106,7 @@ impl<'a> Moved<'a> {
 
     /// Whether each import that takes an address of the sheet has it.
     fn has_imports(&self, again: &Loaded) -> Result<bool, Problem> {
-        let symbols = xcoff::loader_symbol_table(&again.bytes);
-        let symbols = refused_in(again.path, &again.bytes, symbols)?;
+        let symbols = again.symbols()?;
         let mut rows = symbols.iter().zip(&self.sheet.plan.list);
         Ok(rows.all(|(row, &address)| !takes_address(row) || row.symbol.value == address))
     }

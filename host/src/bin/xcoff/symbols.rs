@@ -99,13 +99,25 @@ impl<'a> Chosen<'a> {
         if self.order == Order::Index {
             return rows.try_for_each(|row| list(&row));
         }
-        let mut rows: Vec<SymbolRow> = rows.collect();
-        match self.order {
-            Order::Value => rows.sort_by_key(|row| row.symbol.value),
+        let places = match self.order {
+            Order::Value => self.sorted(table, |row| row.symbol.value),
             // Many names may share the bytes of a long one: no more is compared than is shown.
-            _ => rows.sort_by_key(|row| row.name_up_to(escape::MOST)),
-        }
-        rows.iter().try_for_each(list)
+            _ => self.sorted(table, |row| row.name_up_to(escape::MOST)),
+        };
+        let mut places = places.into_iter();
+        places.try_for_each(|place| list(&table.row(place as usize)))
+    }
+
+    /// The places in the table, by a key: a file may hold close to a million symbols, and a row is far longer than these.
+    fn sorted<'t, K: Ord>(
+        &self,
+        table: &SymbolTable<'t>,
+        key: impl Fn(&SymbolRow<'t>) -> K,
+    ) -> Vec<u32> {
+        let rows = table.rows().zip(0..).filter(|(row, _)| self.has(row));
+        let mut keys: Vec<(K, u32)> = rows.map(|(row, place)| (key(&row), place)).collect();
+        keys.sort_unstable();
+        keys.into_iter().map(|(_, place)| place).collect()
     }
 }
 

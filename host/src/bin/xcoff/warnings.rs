@@ -4,7 +4,7 @@
 use crate::escape;
 use crate::imports::takes_address;
 use crate::load::{Loaded, Sheet};
-use crate::output::{complain, refused_in};
+use crate::output::complain;
 use crate::problem::Problem;
 use xcoff::{Format, Image, LoaderRow, Plan};
 
@@ -63,11 +63,25 @@ fn alignments(file: &Loaded, plan: &Plan) -> Vec<String> {
 /// Warns of a sheet that was probably made for another module. `plan` writes the recorded values into the places that the
 /// rules ignore; where these are neither that nor all 0, it was another's, unless `rewrite` moved the module in between.
 pub fn of_sheet(file: &Loaded, sheet: &Sheet) -> Result<(), Problem> {
-    let symbols = xcoff::loader_symbol_table(&file.bytes);
-    let symbols = refused_in(file.path, &file.bytes, symbols)?;
+    of_sheets(file, [sheet])
+}
+
+/// The same of each.
+pub fn of_sheets<'s>(
+    file: &Loaded,
+    sheets: impl IntoIterator<Item = &'s Sheet<'s>>,
+) -> Result<(), Problem> {
+    let symbols = file.symbols()?;
+    for sheet in sheets {
+        of_listed(file, &symbols, sheet);
+    }
+    Ok(())
+}
+
+fn of_listed(file: &Loaded, symbols: &[LoaderRow], sheet: &Sheet) {
     if symbols.len() != sheet.plan.list.len() {
         // It does not fit at all, and is refused where it is used.
-        return Ok(());
+        return;
     }
     let ignored = || {
         let rows = symbols.iter().zip(&sheet.plan.list);
@@ -76,7 +90,7 @@ pub fn of_sheet(file: &Loaded, sheet: &Sheet) -> Result<(), Problem> {
     let other = ignored().find(|(row, &address)| address != row.symbol.value);
     let another = ignored().any(|(_, &address)| address != 0) && !is_moved(file, ignored());
     let Some((row, address)) = other.filter(|_| another) else {
-        return Ok(());
+        return;
     };
     let digits = file.digits();
     complain(&[format!(
@@ -87,7 +101,6 @@ pub fn of_sheet(file: &Loaded, sheet: &Sheet) -> Result<(), Problem> {
         escape::name(row.name),
         row.symbol.value,
     )]);
-    Ok(())
 }
 
 /// How many of the places that differ are looked at.

@@ -1,0 +1,2 @@
+-- What the contracts of `loader_entries` cite.
+pub mod Entries

@@ -1,0 +1,60 @@
+use borrow.Author.Needs.{needs}
+use native.Mathlib.Omega.{arith}
+use Rattle.loadable.proofs.Accepted.{loadable-valid}
+use Rattle.lookup.proofs.Symbols.{entry-in-file}
+use Rattle.lookup.specs.Symbol.{entryOf, loaderSymbolAt, symbolIn}
+use Rattle.word.proofs.Test.{found}
+use Rattle.loader_lookup.proofs.loader_symbol.Statement.{statement}
+use Rattle.loader_lookup.proofs.loader_symbol.Tie as tie
+
+module-of-requires : tie.Need-module-of-requires
+module-of-requires c κs = search needs
+
+enum-known-a : tie.Need-enum-known-a
+enum-known-a c = search needs
+
+enum-known-a-2 : tie.Need-enum-known-a-2
+enum-known-a-2 c = search needs
+
+check-index-requires : tie.Need-check-index-requires
+check-index-requires c κs = let h = loadable-valid (c .before .before .before .before .before .before .args .file .now) _ (found (c .before .before .before .before .module-of .ensures .0) (c .before .before .a2 .given .1)) in let few = h .loader .tables .few in omega arith
+
+enum-known-v : tie.Need-enum-known-v
+enum-known-v c = search needs
+
+enum-told : tie.Need-enum-told
+enum-told c = search needs
+
+entry-base-requires : tie.Need-entry-base-requires
+entry-base-requires c κs = let h = loadable-valid (c .before .before .before .before .before .before .before .before .before .before .args .file .now) _ (found (c .before .before .before .before .before .before .before .before .module-of .ensures .0) (c .before .before .before .before .before .before .a2 .given .1)) in let t = h .loader .tables in (omega (arith, t .symbols, t .small), found (c .before .before .before .check-index .ensures) (c .before .enum-told .given .1))
+
+read-entry-requires : tie.Need-read-entry-requires
+read-entry-requires c κs = let h = loadable-valid (c .before .before .before .before .before .before .before .before .before .before .before .args .file .now) _ (found (c .before .before .before .before .before .before .before .before .before .module-of .ensures .0) (c .before .before .before .before .before .before .before .a2 .given .1)) in rw (c .entry-base .ensures) (entry-in-file (c .before .before .before .before .before .before .before .before .before .before .before .args .file .now) _ (c .before .before .before .before .before .before .before .before .before .before .before .args .i) (h .loader .tables) (found (c .before .before .before .before .check-index .ensures) (c .before .before .enum-told .given .1)))
+
+returns : tie.Need-returns
+unfolding loaderSymbolAt symbolIn
+returns c = let h = found (c .before .before .before .module-of .ensures .0) (c .before .a .given .1) in (rw h, rw h)
+
+returns-2 : tie.Need-returns-2
+unfolding loaderSymbolAt symbolIn
+returns-2 c = let h = found (c .before .before .before .before .before .before .before .before .module-of .ensures .0) (c .before .before .before .before .before .before .a2 .given .1) in let v = found (c .before .before .before .check-index .ensures) (c .before .v .given .1) in (rw (h, v), rw (h, v))
+
+returns-3 : tie.Need-returns-3
+unfolding loaderSymbolAt symbolIn entryOf
+returns-3 c = let h = found (c .before .before .before .before .before .before .before .before .before .before .module-of .ensures .0) (c .before .before .before .before .before .before .before .before .a2 .given .1) in let v = found (c .before .before .before .before .before .check-index .ensures) (c .before .before .before .enum-told .given .1) in (rw (h, v, c .read-entry .ensures, c .before .entry-base .ensures), rw (h, v, c .read-entry .ensures, c .before .entry-base .ensures))
+
+pub loader-symbol-spec : {M : Type 1} → statement M
+loader-symbol-spec =
+    tie.close
+    (tie.spec
+    module-of-requires
+    enum-known-a
+    enum-known-a-2
+    check-index-requires
+    enum-known-v
+    enum-told
+    entry-base-requires
+    read-entry-requires
+    returns
+    returns-2
+    returns-3)

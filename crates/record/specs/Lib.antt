@@ -1,0 +1,4 @@
+-- What the contracts of `record` cite.
+pub mod Record
+pub mod Claim
+pub mod Count
