@@ -11,7 +11,7 @@
  * Every function takes the whole file as a pointer and a length, judges it from the start and keeps nothing between
  * calls: nothing has to be opened, closed or checked beforehand, and any bytes are allowed. A file of length 0 may have
  * a null pointer. The library allocates nothing, has no global state and may be called from several threads at once.
- * A call takes less than 512 KiB of stack.
+ * A call takes less than 512 KiB of stack; xcoff_build_object, xcoff_move_object and xcoff_replay_object less than 1 MiB.
  *
  * What you must see to: a pointer is good for its length, which counts bytes, or 64-bit numbers where it points to these,
  * and nobody else writes there during the call. Memory that is lent for writing must not overlap the file or other lent
