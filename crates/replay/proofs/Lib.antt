@@ -3,7 +3,6 @@
 
 pub mod Ends
 pub mod Plans
-pub mod Calls
 pub mod Encode
 pub mod Book
 pub mod Answer

@@ -126,3 +126,8 @@ module _ {P : Type 0} (r : Reader P) (forward : Forward r) (s : List ℕ) where
       let n : length s ≡ suc (length s - 1) = omega arith in
       ap (λ (k : ℕ). callsFrom r k s at) n ∙ calls-more r s (length s - 1) at nz
       ∙ ap (λ (cs : List (Call P)). callAt r s at ∷ cs) (calls-same (length s - 1) (length s) (callEnd r s at) (omega arith) (omega arith))
+
+  -- more fuel gives no other calls: the calls of a script are all that stand in it
+  pub calls-enough : (n : ℕ) → length s ≤ n → callsFrom r n s 0 ≡ callsOf r s
+  unfolding callsOf
+  calls-enough n h = calls-same n (length s) 0 (omega arith) (omega arith)
