@@ -124,8 +124,9 @@ impl<'a> Map<'a> {
         })
     }
 
+    /// An empty block may lie at the end of the address space, which is shown as 0.
     pub fn address(&self, block: &Block) -> u64 {
-        self.sheet.address(block.image) + block.start
+        self.sheet.address(block.image).wrapping_add(block.start)
     }
 
     /// The fields that begin in a part of an image.
