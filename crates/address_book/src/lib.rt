@@ -1,6 +1,7 @@
 // The address table as a book: rows, calls and answers, with no word of how they lie in memory. Definitions and theorems, and the
 // check of a call's bench and name.
 #![tactic(auto)]
+
 ghost use Rattle.std.specs.Prelude.{◌≡◌, ◌||◌, eqb};
 ghost use Rattle.address_book.specs.Book.{key};
 ghost use Rattle.address_book.specs.Call.{bench_check, key_check, report_of_number};

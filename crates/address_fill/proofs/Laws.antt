@@ -1,12 +1,12 @@
 -- A fill's list. Assumes nothing.
 use mathlib.Core.Path.{◌≡◌, refl, sym, ◌∙◌, ap}
-use mathlib.Core.Bool.{Bool, true, false, not, cond}
-use mathlib.Core.List.{List, [], ◌∷◌}
+use mathlib.Core.Bool.{true, false, not}
+use mathlib.Core.List.{List}
 use Prim.Native.Nat.{ℕ, zero, suc, ◌+◌, ◌-◌, ◌*◌, ◌/◌, ◌%◌, ◌≤◌, ◌<◌}
 use native.Mathlib.Nat.{sub-zero}
 use native.Mathlib.Numerals.{add-one}
 use native.Mathlib.Omega.{arith}
-use borrow.Author.Tests.{eq-eqb, ne_eqb, eqb-true, eqb-false}
+use borrow.Author.Tests.{eq-eqb, ne_eqb}
 use lib.Dec.{eqb}
 use lib.ListN.{length, set}
 use lib.Seq.{sets}
@@ -19,11 +19,11 @@ use Rattle.refusal.specs.declared.RoomItem.TheVariants.{AddressList}
 use Rattle.refusal.specs.declared.Verdict.{Verdict}
 use Rattle.refusal.specs.declared.Verdict.TheVariants.{Accepted, Refused}
 use Rattle.refusal.specs.Refusal.{is_refused}
-use Rattle.refusal.specs.Order.{◌or_else◌, refuse_if, if_accepted}
+use Rattle.refusal.specs.Order.{refuse_if, if_accepted}
 use Rattle.refusal.proofs.Order.{go_on, stop}
 use Rattle.update.proofs.Stores.{sets-whole}
 use Rattle.loader_symbol.specs.declared.LoaderEntry.{LoaderEntry}
-use Rattle.loader_symbol.specs.Symbol.{is_imported, entry_at, name_in}
+use Rattle.loader_symbol.specs.Symbol.{entry_at, name_in}
 use Rattle.format.specs.Layout.{loader_symbol_length}
 use Rattle.format.specs.declared.NameField.{NameField}
 use Rattle.refusal.specs.declared.RangeAnswer.{RangeAnswer}
@@ -35,7 +35,7 @@ use Rattle.loadable.specs.Loadable.{loadable_at}
 use Rattle.loadable.specs.Valid.{Valid}
 use Rattle.offset.specs.Report.{report_head}
 use Rattle.address_book.specs.Book.{Book}
-use Rattle.address_book.specs.Call.{Place, imported, other, fill, bench_check, call_check, check_of, address_at, filled, written_in, memory_in}
+use Rattle.address_book.specs.Call.{Place, imported, fill, bench_check, call_check, check_of, address_at, filled, written_in, memory_in}
 use Rattle.address_fill.specs.Fill.{place_by, place_in, places_from, places_of, places_by, places_at, Inside}
 
 -- ---- one place

@@ -1,5 +1,6 @@
 // Fills a plan's list from the address table: an import's address by its row, or its recorded value; 0 at every other place.
 #![tactic(auto)]
+
 ghost use Rattle.std.specs.Prelude.{◌≡◌, not, ◌+◌, ◌*◌, ◌≤◌, ◌<◌, eqb, length};
 ghost use Rattle.format.specs.Layout.{loader_symbol_length};
 ghost use Rattle.refusal.specs.declared.RoomItem.TheVariants.{AddressList};

@@ -1,5 +1,6 @@
 // A row's key as seven numbers, so that keys are compared number by number, and its name back as bytes.
 #![tactic(auto)]
+
 ghost use Rattle.std.specs.Prelude.{◌≡◌, ◌+◌, ◌%◌, ◌^◌, ◌≤◌, [], ◌∷◌, length};
 ghost use Rattle.sheet.specs.Sheet.{address_bytes};
 ghost use Rattle.address_book.specs.Book.{key};

@@ -1,6 +1,7 @@
 // The address table in lent memory: up to 512 rows of 8 numbers, without gaps, and how many rows are taken in the last number.
 // Any contents are a table, and zeros are the empty one.
 #![tactic(auto)]
+
 ghost use Rattle.std.specs.Prelude.{◌≡◌, ◌++◌, ◌+◌, ◌-◌, ◌≤◌, ◌<◌, length, set, take, drop};
 ghost use Rattle.std.proofs.lemmas.List.Edits.{sets};
 ghost use Rattle.refusal.specs.declared.Verdict.TheVariants.{Accepted};

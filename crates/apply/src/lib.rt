@@ -1,5 +1,6 @@
 // Relocation entries applied to the two images of a module.
 #![tactic(auto)]
+
 ghost use Rattle.std.specs.Prelude.{◌≡◌, ◌+◌, ◌^◌, ◌<◌, ◌≤◌, length, pos};
 ghost use Rattle.relocation.specs.Relocation.{bytes_wide};
 ghost use Rattle.loadable.specs.Valid.{Valid};

@@ -1,5 +1,6 @@
 // Every relocation entry of a module applied to its images, in order.
 #![tactic(auto)]
+
 ghost use Rattle.std.specs.Prelude.{◌≡◌, ◌+◌, ◌<◌, length};
 ghost use Rattle.loadable.specs.Valid.{Valid};
 ghost use Rattle.history.specs.Images.{images, apply_entry, apply_all};

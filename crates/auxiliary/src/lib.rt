@@ -1,5 +1,6 @@
 // The auxiliary header, which follows the file header, compared with the section headers.
 #![tactic(auto)]
+
 ghost use Rattle.std.specs.Prelude.{◌≡◌, ◌+◌, ◌≤◌, false, ◌&&◌, eqb, length};
 ghost use Rattle.format.specs.Layout.{aux_layout};
 ghost use Rattle.auxiliary.specs.Auxiliary.{aux_at, numbers_agree, sizes_agree};

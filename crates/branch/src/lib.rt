@@ -1,5 +1,6 @@
 // A branch word's signed value, and exact sums on it, which a word of 64 bits and one of 32 tell.
 #![tactic(auto)]
+
 ghost use Rattle.std.specs.Prelude.{◌≡◌, pos, ◌+ℤ◌, neg_ℤ};
 ghost use Rattle.branch.specs.Branch.{wide_in_range, sum_of, wide, branch_value};
 

@@ -1,6 +1,7 @@
 // RANGE over a section's own table: the first entry on a branch word whose exact sum is out of range. Where the branches ascend, one sum is held at a time; otherwise
 // the sums of a window of the section.
 #![tactic(auto)]
+
 ghost use Rattle.std.specs.Prelude.{◌≡◌, true, ℕ, ◌+◌, ◌-◌, ◌*◌, ◌≤◌, ◌<◌, length, pos, ◌+ℤ◌, ◌-ℤ◌};
 ghost use Rattle.branch.specs.Branch.{branch_value, sum_of, wide};
 ghost use Rattle.object_history.specs.Entry.{amount_of};

@@ -1,5 +1,6 @@
 // Which builds and moves are accepted: ROOM 2, PLAN, ROOM 0 and 1, in their order.
 #![tactic(auto)]
+
 ghost use Rattle.std.specs.Prelude.{◌≡◌, ◌-◌, length};
 ghost use Rattle.loadable.specs.Valid.{Valid};
 ghost use Rattle.refusal.specs.Order.{◌or_else◌};

@@ -1,5 +1,6 @@
 // The csect entry of a symbol: its last auxiliary.
 #![tactic(auto)]
+
 ghost use Rattle.std.specs.Prelude.{◌≡◌, ◌+◌, ◌%◌, ◌≤◌, length};
 ghost use Rattle.format.specs.Layout.{symbol_length};
 ghost use Rattle.symbol.specs.Entry.{OpenTables};

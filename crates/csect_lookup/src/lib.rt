@@ -1,5 +1,6 @@
 // The csect entry of a symbol, looked up by the symbol's index: a label with its container.
 #![tactic(auto)]
+
 ghost use Rattle.std.specs.Prelude.{◌≡◌, cond};
 ghost use Rattle.symbol.specs.Entry.{OpenTables};
 ghost use Rattle.csect_lookup.specs.Lookup.{is_contained, is_sd, csect_in, csect_at, type_number, report_of_csect, csect_report};

@@ -1,11 +1,10 @@
 -- The debug sections of a file. Assumes nothing.
 use Prim.Native.Nat.{ℕ, zero, suc, ◌+◌, ◌≤◌, ◌<◌}
-use mathlib.Core.Path.{◌≡◌, refl, sym, ◌∙◌, ap}
-use mathlib.Core.Bool.{Bool, true, false, cond, ◌&&◌}
+use mathlib.Core.Path.{◌≡◌, refl}
+use mathlib.Core.Bool.{Bool, true, false, cond}
 use mathlib.Core.List.{List, [], ◌∷◌}
 use native.Mathlib.Numerals.{add-one}
 use native.Mathlib.Omega.{arith}
-use borrow.Author.Tests.{ne_eqb}
 use lib.Dec.{eqb}
 use lib.ListN.{length, get_or}
 use Rattle.word.proofs.Test.{either, and_second}
@@ -19,7 +18,6 @@ use Rattle.header.specs.declared.Summary.{Summary}
 use Rattle.header.specs.Open.{open_of}
 use Rattle.header.specs.Inside.{Inside}
 use Rattle.header.proofs.Accepted.{opened_inside}
-use Rattle.debug_section.specs.declared.DebugSection.{DebugSection}
 use Rattle.debug_section.specs.declared.DebugSection.TheVariants.{One, NotOne}
 use Rattle.debug_section.specs.declared.DebugTally.{DebugTally}
 use Rattle.debug_section.specs.Debug.{is_debug, raw_of, debug_ranges, exactly_one, debug_of, last_of, tally_of, DebugInside}

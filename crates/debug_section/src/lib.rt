@@ -1,5 +1,6 @@
 // The debug section, and the strings in it that symbols of debug classes are named by.
 #![tactic(auto)]
+
 ghost use Rattle.std.specs.Prelude.{◌≡◌, true, cond, ◌+◌, ◌≤◌, ◌<◌, length};
 ghost use Rattle.word.specs.Number.{bytes_in};
 ghost use Rattle.format.specs.Limit.{section_limit};

@@ -1,5 +1,6 @@
 // What text, data and bss move by in a plan, and the entry and TOC addresses there.
 #![tactic(auto)]
+
 ghost use Rattle.std.specs.Prelude.{◌≡◌, ◌+◌, ◌-◌, ◌%◌, pos, ◌-ℤ◌};
 ghost use Rattle.format.specs.Layout.{address_limit};
 ghost use Rattle.apply.specs.Shift.{Displaced};

@@ -1,5 +1,6 @@
 // Kinds of field that a relocation entry of an object file changes, and exact integers added to them.
 #![tactic(auto)]
+
 ghost use Rattle.std.specs.Prelude.{◌≡◌, ◌+◌, ◌≤◌, length, pos};
 ghost use Rattle.update.specs.Update.{update as changed};
 ghost use Rattle.field_kind.specs.Field.{bytes_in, add_low, add_to, place};

@@ -1,5 +1,6 @@
 // Fields that overlap: the rule of OVERLAP, and two passes that show that no two overlap: of aligned fields, and of fields in ascending order.
 #![tactic(auto)]
+
 ghost use Rattle.std.specs.Prelude.{◌≡◌, true, ◌≤◌};
 ghost use Rattle.format.specs.Limit.{file_limit};
 ghost use Rattle.relocation.specs.Relocation.{place_at};

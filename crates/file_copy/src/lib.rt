@@ -1,5 +1,6 @@
 // A copy of a file, and numbers set in it.
 #![tactic(auto)]
+
 ghost use Rattle.std.specs.Prelude.{◌≡◌, ◌+◌, ◌≤◌, length};
 ghost use Rattle.word.specs.Number.{bytes_in};
 ghost use Rattle.update.specs.Update.{put_field};

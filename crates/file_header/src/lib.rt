@@ -1,5 +1,6 @@
 // The file header: its numbers, where section headers start, and the checks before any section is looked at.
 #![tactic(auto)]
+
 ghost use Rattle.std.specs.Prelude.{◌≡◌, ◌≤◌, length};
 ghost use Rattle.format.specs.Layout.{header_layout};
 ghost use Rattle.format.specs.Limit.{file_limit, section_limit};

@@ -1,5 +1,6 @@
 // The tables of a file: its sections judged in order, its symbols and its strings.
 #![tactic(auto)]
+
 ghost use Rattle.std.specs.Prelude.{◌≡◌, ◌⊎◌, ◌+◌, ◌≤◌, ◌<◌, length};
 ghost use Rattle.file_header.specs.Header.{Bounded, HeaderComplete};
 ghost use Rattle.file_tables.specs.Tables.{blank_section, judged_at, refused_scan, scan_of, strings_check, symbols_check, strings_length, symbol_table};

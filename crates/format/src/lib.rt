@@ -1,5 +1,6 @@
 // The two formats: where their headers keep each number, the kinds of section, and the units that are kept apart.
 #![tactic(auto)]
+
 ghost use Rattle.std.specs.Prelude.{◌≡◌, ◌+◌, ◌≤◌, length};
 ghost use Rattle.word.specs.Number.{bytes_in};
 ghost use Rattle.format.specs.Name.{name_field};

@@ -1,9 +1,9 @@
 -- A field put into a record, and the other fields of the record. Assumes nothing.
-use mathlib.Core.Path.{◌≡◌, refl, sym, ◌∙◌, ap}
+use mathlib.Core.Path.{◌≡◌, refl, ◌∙◌}
 use mathlib.Core.Bool.{Bool, true, false, ◌||◌}
-use mathlib.Core.Logic.{◌⊎◌, inl, inr}
+use mathlib.Core.Logic.{inl, inr}
 use mathlib.Core.List.{List}
-use Prim.Native.Nat.{ℕ, ◌+◌, ◌^◌, ◌≤◌, ◌<◌}
+use Prim.Native.Nat.{ℕ, ◌+◌, ◌^◌, ◌<◌}
 use native.Mathlib.Nat.{mod-eq_of_lt}
 use native.Mathlib.Omega.{arith}
 use lib.ListN.{length}
@@ -11,7 +11,7 @@ use lib.Dec.{leb}
 use borrow.Author.Tests.{leb-true}
 use Rattle.word.specs.declared.Field.{Field}
 use Rattle.word.specs.Number.{bytes_in, field_in}
-use Rattle.update.specs.Update.{Apart, put_field}
+use Rattle.update.specs.Update.{Apart}
 use Rattle.update.proofs.Laws.{field_put, field_apart}
 use Rattle.format.specs.Range.{range}
 use Rattle.format.proofs.Layouts.{FieldInside}

@@ -1,44 +1,38 @@
 -- What an accepted file reads as, both ways; and files that open alike. Assumes nothing.
 use mathlib.Core.Path.{◌≡◌, refl, sym, ◌∙◌, ap, subst}
-use mathlib.Core.Bool.{Bool, true, false, cond, ◌&&◌}
-use mathlib.Core.List.{List, [], ◌∷◌}
-use Prim.Native.Nat.{ℕ, zero, suc, ◌+◌, ◌-◌, ◌*◌, ◌≤◌, ◌<◌}
+use mathlib.Core.Bool.{Bool, true, false, ◌&&◌}
+use mathlib.Core.List.{List}
+use Prim.Native.Nat.{ℕ, zero, suc, ◌+◌, ◌≤◌, ◌<◌}
 use native.Mathlib.Omega.{arith}
-use lib.ListN.{length, get_or, take, drop, set, length-set, length-replicate}
-use lib.Seq.{get_or-set_same, get_or-set_other}
-use lib.Dec.{lit≤, ltb, leb, eqb}
+use lib.ListN.{length}
+use lib.Dec.{ltb, leb, eqb}
 use native.Mathlib.Decide.{ℕ_discrete}
-use borrow.Author.Tests.{lt-ltb, le-ltb, ltb-false, eq-eqb, ne_eqb, eqb-true, eqb-false, leb-true}
+use borrow.Author.Tests.{le-ltb, ltb-false, eq-eqb, ne_eqb, eqb-false, leb-true}
 use Rattle.word.specs.Number.{field_at, field_in}
-use Rattle.word.specs.Test.{past}
-use Rattle.word.proofs.Test.{either}
 use Rattle.format.specs.declared.Format.{Format}
 use Rattle.format.specs.declared.Format.TheVariants.{Xcoff32, Xcoff64}
 use Rattle.format.specs.declared.MagicAnswer.{MagicAnswer}
 use Rattle.format.specs.declared.MagicAnswer.TheVariants.{Known, Unknown}
-use Rattle.format.specs.Layout.{magic_field, format_of, header_layout, section_layout, symbol_length}
-use Rattle.format.specs.Limit.{file_limit, section_limit}
-use Rattle.refusal.specs.declared.Refusal.{Refusal}
+use Rattle.format.specs.Layout.{magic_field, format_of, header_layout, section_layout}
+use Rattle.format.specs.Limit.{file_limit}
 use Rattle.refusal.specs.declared.Refusal.TheVariants as refusal
 use Rattle.refusal.specs.declared.LimitItem.TheVariants.{File}
 use Rattle.refusal.specs.declared.Verdict.{Verdict}
-use Rattle.refusal.specs.declared.Verdict.TheVariants.{Accepted, Refused}
+use Rattle.refusal.specs.declared.Verdict.TheVariants.{Accepted}
 use Rattle.refusal.specs.Order.{◌or_else◌, refuse_if, first_of}
 use Rattle.refusal.proofs.Order.{accepted-first, accepted-rest, accepted-test, not-accepted, first-all}
-use Rattle.section.specs.declared.Section.{Section}
 use Rattle.section.specs.declared.SectionAnswer.{SectionAnswer}
 use Rattle.section.specs.declared.SectionAnswer.TheVariants as section
-use Rattle.section.specs.Section.{section_header_at, judge_section}
 use Rattle.file_header.specs.declared.FileHeader.{FileHeader}
-use Rattle.file_header.specs.Header.{header_at, header_check, section_start, HeaderComplete}
-use Rattle.file_tables.specs.Tables.{judged_at, verdict_of, record_of, sections_check, sections_of, symbols_check, symbols_end, strings_check, strings_length, symbol_table, blank_section, blank_sections}
+use Rattle.file_header.specs.Header.{header_at, header_check, section_start}
+use Rattle.file_tables.specs.Tables.{judged_at, verdict_of, record_of, sections_check, sections_of, symbols_check, symbols_end, strings_check, strings_length, symbol_table}
 use Rattle.header.specs.declared.Summary.{Summary}
 use Rattle.header.specs.declared.Opened.{Opened}
 use Rattle.header.specs.Open.{summary_with, format_check, magic_check, open_check, accepted_with, summary_as, open_of}
 use Rattle.header.proofs.Accepted.{checks, small-file, magic-accepted}
 use Rattle.visibility.specs.Visibility.{version_by, has_version2}
 use Rattle.frame.specs.Same.{Same}
-use Rattle.frame.proofs.Same.{same-part, same-within, same_number, same-field}
+use Rattle.frame.proofs.Same.{same-within, same_number}
 use Rattle.frame.proofs.Readers.{header-same, section-same, cond_same}
 
 -- ---- an accepted file, check by check

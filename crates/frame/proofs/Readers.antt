@@ -1,10 +1,9 @@
 -- Readers give the same of two files that agree on the bytes they read. Assumes nothing.
-use mathlib.Core.Path.{◌≡◌, refl, sym, ◌∙◌, ap}
+use mathlib.Core.Path.{◌≡◌, refl, ap}
 use mathlib.Core.Bool.{Bool, true, false, not, cond, ◌||◌}
-use mathlib.Core.List.{List, [], ◌∷◌}
-use Prim.Native.Nat.{ℕ, zero, suc, ◌+◌, ◌-◌, ◌*◌, ◌≤◌, ◌<◌}
+use mathlib.Core.List.{List}
+use Prim.Native.Nat.{ℕ, ◌+◌, ◌-◌, ◌≤◌}
 use native.Mathlib.Omega.{arith}
-use lib.ListN.{length, get_or, take, drop}
 use lib.Dec.{lit≤, ltb, eqb}
 use borrow.Author.Tests.{ltb-false}
 use Rattle.word.specs.Test.{past}
@@ -13,10 +12,9 @@ use Rattle.format.specs.declared.FileRange.{FileRange}
 use Rattle.format.specs.declared.NameField.{NameField}
 use Rattle.format.specs.declared.NameField.TheVariants.{Short, Offset}
 use Rattle.refusal.specs.declared.RangeAnswer.TheVariants.{Found}
-use Rattle.word.specs.declared.Field.{Field}
 use Rattle.word.specs.declared.Width.TheVariants as width
 use Rattle.word.specs.declared.Width.TheVariants.{Two, Four, Eight}
-use Rattle.word.specs.Number.{value_of, field_at, field, bytes_in, field_in}
+use Rattle.word.specs.Number.{field_at, field}
 use Rattle.format.specs.declared.Format.{Format}
 use Rattle.format.specs.declared.Format.TheVariants.{Xcoff32, Xcoff64}
 use Rattle.format.specs.Layout.{header_layout, section_layout, aux_layout, aux_numbers, symbol_layout, short_name, zeroes_field, symbol_length, loader_layout, relocation_layout, loader_symbol_length}
@@ -35,7 +33,7 @@ use Rattle.symbol.specs.Entry as entry
 use Rattle.symbol.specs.Name as name
 use Rattle.format.specs.declared.SymbolIndex.{SymbolIndex}
 use Rattle.frame.specs.Same.{Same}
-use Rattle.frame.proofs.Same.{same-part, same-within, same_number, same-field, same_text}
+use Rattle.frame.proofs.Same.{same-within, same_number, same-field, same_text}
 
 -- the file header
 pub header-same : (f : Format) {xs ys : List ℕ} → Same 0 (header_layout f).length xs ys → header_at f xs ≡ header_at f ys

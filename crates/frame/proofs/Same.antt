@@ -3,13 +3,11 @@ use mathlib.Core.Path.{◌≡◌, refl, sym, ◌∙◌, ap}
 use mathlib.Core.List.{List, [], ◌∷◌}
 use Prim.Native.Nat.{ℕ, zero, suc, ◌+◌, ◌-◌, ◌≤◌, ◌<◌}
 use native.Mathlib.Omega.{arith}
-use native.Mathlib.Nat.{zero-add}
 use lib.ListN.{length, get_or, take, drop, length-take, length-drop}
-use lib.Seq.{drop-drop, take-take, ext_get_or, get_or-take, get_or-drop, take-nil, drop-nil}
+use lib.Seq.{drop-drop, take-take, ext_get_or, get_or-take, get_or-drop}
 use Rattle.word.specs.declared.Field.{Field}
 use Rattle.word.specs.Number.{value_of, field_at, bytes_in, field_in}
-use Rattle.format.specs.declared.FileRange.{FileRange}
-use Rattle.format.specs.Range.{range, bytes_of, text_in}
+use Rattle.format.specs.Range.{range, text_in}
 use Rattle.word.specs.Zero.{first_zero}
 use Rattle.format.proofs.Layouts.{FieldInside}
 use Rattle.frame.specs.Same.{Same}

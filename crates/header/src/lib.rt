@@ -1,5 +1,6 @@
 // Opening a file: its headers are judged in the order of document 01, and a summary by value is handed back.
 #![tactic(auto)]
+
 ghost use Rattle.std.specs.Prelude.{◌≡◌};
 ghost use Rattle.format.specs.Layout.{bits_of};
 ghost use Rattle.refusal.specs.Order.{by_verdict, if_accepted};

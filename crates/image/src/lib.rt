@@ -1,5 +1,6 @@
 // Images built for a plan, and moved from one plan to another.
 #![tactic(auto)]
+
 ghost use Rattle.std.specs.Prelude.{◌≡◌, ◌-◌, length};
 ghost use Rattle.loadable.specs.Valid.{Valid};
 ghost use Rattle.history.specs.Images.{images};

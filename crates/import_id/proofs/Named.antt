@@ -1,11 +1,10 @@
 -- What the refusals of an import id's strings name is there. Assumes nothing.
 use Prim.Native.Nat.{ℕ, ◌+◌, ◌*◌}
-use mathlib.Core.Path.{◌≡◌, refl}
+use mathlib.Core.Path.{refl}
 use mathlib.Core.Bool.{not}
 use mathlib.Core.List.{List}
 use lib.Dec.{ltb}
 use Rattle.refusal.specs.declared.IndexItem.TheVariants.{NoImportId}
-use Rattle.refusal.specs.declared.RangeAnswer.{RangeAnswer}
 use Rattle.refusal.specs.declared.RangeAnswer.TheVariants.{Found, Refused}
 use Rattle.refusal.specs.declared.Refusal.TheVariants.{Index}
 use Rattle.refusal.specs.declared.Verdict.{Verdict}

@@ -1,5 +1,6 @@
 // An import id's three strings looked up: the module's refusals, then INDEX. They are parts of the file.
 #![tactic(auto)]
+
 ghost use Rattle.std.specs.Prelude.{◌≡◌, ◌+◌, ◌-◌, ◌*◌, ◌≤◌, ◌<◌, length};
 ghost use Rattle.word.specs.Zero.{zeros_in};
 ghost use Rattle.format.specs.Limit.{file_limit};

@@ -1,5 +1,6 @@
 // Line number entries: what stands at a place, and one pass over a table in search of an address.
 #![tactic(auto)]
+
 ghost use Rattle.std.specs.Prelude.{◌≡◌, ◌+◌, ◌*◌, ◌≤◌, ◌<◌, ◌^◌, ltb, length};
 ghost use Rattle.line.specs.Line.{line_length, line_layout, entry_at, line_row};
 ghost use Rattle.line.specs.Block.{block_rows, empty_block, added};

@@ -1,5 +1,6 @@
 // A section's line table found, and the line of an address.
 #![tactic(auto)]
+
 ghost use Rattle.std.specs.Prelude.{◌≡◌, ◌≤◌};
 ghost use Rattle.format.specs.Limit.{section_limit};
 ghost use Rattle.line_lookup.specs.Lookup.{line_table_in, line_table_at, report_of_count, count_report, line_at, report_of_line, line_report};

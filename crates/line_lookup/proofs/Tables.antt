@@ -22,7 +22,6 @@ use Rattle.file_tables.specs.Tables.{blank_section}
 use Rattle.header.specs.declared.Opened.{Opened}
 use Rattle.header.specs.declared.Summary.{Summary}
 use Rattle.header.specs.Open.{open_of}
-use Rattle.header.specs.Inside.{Inside}
 use Rattle.header.proofs.Accepted.{opened_inside}
 use Rattle.section_lookup.specs.Lookup.{number_check}
 use Rattle.section_lookup.proofs.Lookup.{number-known}

@@ -1,5 +1,6 @@
 // From an address to a line: the line table of a text section found, and searched for an address.
 #![tactic(auto)]
+
 ghost use Rattle.std.specs.Prelude.{◌≡◌, ◌+◌, ◌*◌, ◌≤◌, length};
 ghost use Rattle.format.specs.Limit.{section_limit};
 ghost use Rattle.line.specs.Line.{line_length};

@@ -1,5 +1,6 @@
 // The line number tables' reader: the file and the place in it together. It is made for a table, and steps through its entries.
 #![tactic(auto)]
+
 ghost use Rattle.std.specs.Prelude.{◌≡◌, ◌+◌, ◌*◌, ◌≤◌, ◌<◌, ◌^◌, ltb, length};
 ghost use Rattle.line.specs.Line.{line_length, entry_at, entry_of};
 ghost use Rattle.line.specs.Block.{block_rows, block_to};

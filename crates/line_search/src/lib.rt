@@ -1,5 +1,6 @@
 // The search of a line table for an address, an entry at a time.
 #![tactic(auto)]
+
 ghost use Rattle.std.specs.Prelude.{◌≡◌, ◌+◌, ◌<◌, ◌^◌, true, cond, eqb};
 ghost use Rattle.line.specs.Search.{is_below, better, begun, seen, answer_of};
 

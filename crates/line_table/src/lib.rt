@@ -1,6 +1,7 @@
 // The line table of a text section listed whole: each entry gets a row of numbers. Entries are taken through the reader, a
 // block at a time.
 #![tactic(auto)]
+
 ghost use Rattle.std.specs.Prelude.{◌≡◌, ◌+◌, ◌*◌, ◌≤◌, ◌<◌, length};
 ghost use Rattle.refusal.specs.Order.{if_accepted};
 ghost use Rattle.offset.specs.Report.{report_head};

@@ -12,7 +12,7 @@ use Rattle.format.specs.Limit.{file_limit}
 use Rattle.refusal.specs.declared.Refusal.TheVariants.{Overlap}
 use Rattle.refusal.specs.declared.Verdict.TheVariants as verdict
 use Rattle.refusal.specs.Order.{refuse_if}
-use Rattle.refusal.proofs.Order.{accepts, accepted-first, accepted-rest, accepted-test, first-all, by-verdict}
+use Rattle.refusal.proofs.Order.{accepted-first, accepted-rest, accepted-test, first-all, by-verdict}
 use Rattle.parts.specs.declared.Part.{Part}
 use Rattle.parts.specs.declared.Parts.{Parts}
 use Rattle.module.specs.declared.Module.{Module}
@@ -28,8 +28,8 @@ use Rattle.loader_header.specs.Header.{LoaderRoom}
 use Rattle.loader.specs.Loader.{loader_in}
 use Rattle.loader.specs.Inside.{LoaderInside}
 use Rattle.loader.proofs.Accepted.{loader-inside}
-use Rattle.relocation.specs.Relocation.{entry_in, own_at, place_at, EntriesInside, PlaceInside}
-use Rattle.relocation.proofs.Entries.{place_inside, own-symbol}
+use Rattle.relocation.specs.Relocation.{entry_in, own_at, place_at, EntriesInside}
+use Rattle.relocation.proofs.Entries.{own-symbol}
 use Rattle.field_overlap.specs.Overlap.{meets}
 use Rattle.field_overlap.proofs.Rule.{meets-none}
 use Rattle.loadable.specs.declared.Loadable.{Loadable}

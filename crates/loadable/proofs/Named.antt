@@ -1,6 +1,6 @@
 -- What the refusals of a loadable module name is there. Assumes nothing.
-use Prim.Native.Nat.{ℕ, ◌+◌, ◌*◌, ◌≤◌, ◌<◌}
-use mathlib.Core.Path.{◌≡◌, refl, sym, ◌∙◌}
+use Prim.Native.Nat.{ℕ, ◌*◌, ◌<◌}
+use mathlib.Core.Path.{◌≡◌, refl}
 use mathlib.Core.Bool.{not}
 use mathlib.Core.List.{List}
 use native.Mathlib.Omega.{arith}
@@ -20,7 +20,7 @@ use Rattle.refusal.proofs.Causes.{Causes, cause-if, cause-test, cause-then, caus
 use Rattle.file_header.specs.declared.FileHeader.{FileHeader}
 use Rattle.file_header.specs.Header.{header_at}
 use Rattle.offset.specs.Offset.{starts_as, relocation_place}
-use Rattle.offset.specs.Named.{NamesRelocation, Named, loader_start, loader_of}
+use Rattle.offset.specs.Named.{NamesRelocation, Named}
 use Rattle.offset.proofs.Named.{named_by, relocation-named}
 use Rattle.module.specs.declared.Module.{Module}
 use Rattle.module.specs.declared.ModuleAnswer.{ModuleAnswer}
@@ -28,11 +28,10 @@ use Rattle.module.specs.declared.ModuleAnswer.TheVariants as found
 use Rattle.module.specs.Module.{module_at}
 use Rattle.module.proofs.Accepted.{module-inside}
 use Rattle.module.proofs.Named.{LoaderPlace, ModuleCauses, module-named}
-use Rattle.loader_header.specs.declared.LoaderTables.{LoaderTables}
 use Rattle.loader_header.specs.Header.{loader_header_at, tables_of, header_check, LoaderRoom}
 use Rattle.loader_header.proofs.Places.{place-full}
 use Rattle.loader.specs.declared.LoaderAnswer.TheVariants as loader
-use Rattle.loader.specs.Loader.{tables_in, symbols_check, loader_check, loader_in}
+use Rattle.loader.specs.Loader.{tables_in, loader_check, loader_in}
 use Rattle.loader.proofs.Accepted.{loader-inside}
 use Rattle.loader.proofs.Named.{not-empty, header_is, header-whole, loader-check-named}
 use Rattle.relocation.specs.Relocation.{is_thread, is_good, entry_in, own_check, own_at, place_at}

@@ -6,7 +6,6 @@ use Rattle.module.specs.declared.Module.{Module}
 use Rattle.module.specs.declared.ModuleAnswer.{ModuleAnswer}
 use Rattle.module.specs.declared.ModuleAnswer.TheVariants as found
 use Rattle.module.specs.Module.{module_at}
-use Rattle.loader_header.specs.declared.LoaderTables.{LoaderTables}
 use Rattle.loader.specs.declared.LoaderAnswer.{LoaderAnswer}
 use Rattle.loader.specs.declared.LoaderAnswer.TheVariants as loader
 use Rattle.loader.specs.Loader.{loader_in}

@@ -1,5 +1,6 @@
 // The loadable module, judged whole: its sections, its loader section, and every relocation entry in order.
 #![tactic(auto)]
+
 ghost use Rattle.std.specs.Prelude.{◌≡◌};
 ghost use Rattle.module.specs.Inside.{ModuleInside};
 ghost use Rattle.loadable.specs.Loadable.{loadable_in, loadable_at, part_report, anchor_report, report_of_found, report_of_module, module_report};

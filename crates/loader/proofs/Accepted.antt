@@ -16,7 +16,7 @@ use Rattle.format.specs.Limit.{file_limit, loader_symbol_limit, relocation_limit
 use Rattle.format.specs.Range.{bytes_of}
 use Rattle.refusal.specs.declared.Refusal.TheVariants.{Loader}
 use Rattle.refusal.specs.declared.LoaderItem.TheVariants.{ShortHeader}
-use Rattle.refusal.specs.declared.Verdict.TheVariants.{Accepted, Refused}
+use Rattle.refusal.specs.declared.Verdict.TheVariants.{Accepted}
 use Rattle.refusal.specs.Order.{◌or_else◌, refuse_if}
 use Rattle.refusal.proofs.Order.{accepted-first, accepted-rest, accepted-test, first-all, by-verdict}
 use Rattle.loader_header.specs.declared.LoaderHeader.{LoaderHeader}

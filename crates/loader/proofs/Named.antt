@@ -1,7 +1,7 @@
 -- What the loader section's refusals name is there. Assumes nothing.
 use Prim.Native.Nat.{ℕ, ◌+◌, ◌*◌, ◌%◌, ◌≤◌, ◌<◌}
-use mathlib.Core.Path.{◌≡◌, refl, sym, ◌∙◌, ap}
-use mathlib.Core.Bool.{Bool, not, ◌&&◌, ◌||◌}
+use mathlib.Core.Path.{◌≡◌, refl}
+use mathlib.Core.Bool.{not, ◌&&◌, ◌||◌}
 use mathlib.Core.List.{List}
 use native.Mathlib.Nat.{mul-le-mul_right}
 use native.Mathlib.Omega.{arith}
@@ -17,25 +17,22 @@ use Rattle.refusal.specs.declared.LoaderItem.{LoaderItem}
 use Rattle.refusal.specs.declared.LoaderItem.TheVariants.{ShortHeader, Version, SymbolsPast, RelocationsPast, ImportIdsPast, StringsPast}
 use Rattle.refusal.specs.declared.Refusal.{Refusal}
 use Rattle.refusal.specs.declared.Refusal.TheVariants as refusal
-use Rattle.refusal.specs.declared.Verdict.{Verdict}
 use Rattle.refusal.specs.declared.Verdict.TheVariants as verdict
-use Rattle.refusal.specs.Order.{by_verdict}
 use Rattle.refusal.proofs.Causes.{Causes, cause-if, cause-test, cause-then, cause-first}
 use Rattle.file_header.specs.declared.FileHeader.{FileHeader}
 use Rattle.file_header.specs.Header.{header_at}
 use Rattle.offset.specs.Offset.{starts_as, loader_symbol_place}
-use Rattle.offset.specs.Named.{NamesLoader, NamesLoaderSymbol, Named, loader_start, loader_of}
+use Rattle.offset.specs.Named.{NamesLoaderSymbol, Named, loader_start, loader_of}
 use Rattle.offset.proofs.Named.{named_by, loader-named, loader-symbol-named}
 use Rattle.module.specs.declared.Module.{Module}
 use Rattle.module.proofs.Named.{LoaderPlace}
 use Rattle.loader_header.specs.declared.LoaderHeader.{LoaderHeader}
-use Rattle.loader_header.specs.declared.LoaderTables.{LoaderTables}
-use Rattle.loader_header.specs.Header.{loader_header_at, table_past, place_of, tables_of, numbers_check, places_check, header_check, LoaderRoom}
+use Rattle.loader_header.specs.Header.{loader_header_at, table_past, tables_of, numbers_check, places_check, header_check, LoaderRoom}
 use Rattle.loader_header.proofs.Places.{place-full}
 use Rattle.loader_symbol.specs.Symbol.{is_placed, is_found, name_in, entry_start, entry_at, entry_check, symbol_check}
 use Rattle.loader.specs.declared.LoaderAnswer.{LoaderAnswer}
 use Rattle.loader.specs.declared.LoaderAnswer.TheVariants as answer
-use Rattle.loader.specs.Loader.{tables_in, symbols_check, loader_check, loader_in}
+use Rattle.loader.specs.Loader.{tables_in, symbols_check, loader_check}
 use Rattle.loader.proofs.Accepted.{Known, loader-known}
 
 -- what holds of the refusal of a loader section's answer

@@ -1,5 +1,6 @@
 // Every loader symbol in order, and the loader section judged whole.
 #![tactic(auto)]
+
 ghost use Rattle.std.specs.Prelude.{◌≡◌, length};
 ghost use Rattle.refusal.specs.Order.{first_of};
 ghost use Rattle.loader_header.specs.Header.{LoaderRoom};

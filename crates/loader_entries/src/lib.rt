@@ -1,5 +1,6 @@
 // A module's relocation entries judged in order: each by itself, then whether its field meets one before.
 #![tactic(auto)]
+
 ghost use Rattle.std.specs.Prelude.{◌≡◌};
 ghost use Rattle.relocation.specs.Relocation.{own_at};
 ghost use Rattle.loader_entries.specs.Entries.{entries_check, FirstRefused, verdict_at, EntriesReady};

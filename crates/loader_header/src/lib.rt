@@ -1,5 +1,6 @@
 // The loader section: its header, and where its tables lie: LOADER, LIMIT 2 and 3.
 #![tactic(auto)]
+
 ghost use Rattle.std.specs.Prelude.{◌≡◌, false, ◌||◌, eqb, ◌+◌, ◌*◌, ◌≤◌, ◌<◌, length};
 ghost use Rattle.format.specs.Layout.{loader_layout};
 ghost use Rattle.format.specs.Limit.{file_limit};

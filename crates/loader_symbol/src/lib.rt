@@ -1,5 +1,6 @@
 // One loader symbol, read and judged: what its 24 bytes hold, where its name lies, LSYM.
 #![tactic(auto)]
+
 ghost use Rattle.std.specs.Prelude.{◌≡◌, ◌+◌, ◌≤◌, ◌<◌, length};
 ghost use Rattle.format.specs.Layout.{loader_symbol_length};
 ghost use Rattle.loader_symbol.specs.Symbol.{entry_at, string_in, name_in};

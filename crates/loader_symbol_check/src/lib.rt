@@ -1,5 +1,6 @@
 // A loader symbol judged: its name, type, and where it is placed.
 #![tactic(auto)]
+
 ghost use Rattle.std.specs.Prelude.{◌≡◌, false, ◌||◌, eqb, ◌+◌, ◌*◌, ◌<◌};
 ghost use Rattle.loader_symbol.specs.Symbol.{is_found, is_placed, symbol_check, TablesInside};
 

@@ -1,5 +1,6 @@
 // Loader symbols listed whole: the module is judged once, and each gets a row of numbers.
 #![tactic(auto)]
+
 ghost use Rattle.std.specs.Prelude.{◌≡◌, ◌*◌, ◌<◌, length};
 ghost use Rattle.loadable.specs.Loadable.{loadable_at};
 ghost use Rattle.rows.specs.Rows.{rows_of};

@@ -1,5 +1,6 @@
 // A loader symbol and its name looked up: the module's refusals, then INDEX. Names are parts of the file.
 #![tactic(auto)]
+
 ghost use Rattle.std.specs.Prelude.{◌≡◌, ◌+◌, ◌-◌, ◌*◌, ◌≤◌, ◌<◌};
 ghost use Rattle.format.specs.Layout.{loader_symbol_length};
 ghost use Rattle.format.specs.Limit.{file_limit};

@@ -1,9 +1,8 @@
 -- What a field of an entry holds after the entry's changes. Assumes nothing.
-use mathlib.Core.Path.{◌≡◌, refl, sym, ◌∙◌, ap}
+use mathlib.Core.Path.{◌≡◌, refl, ◌∙◌, ap}
 use mathlib.Core.Bool.{Bool, true, false, cond, ◌&&◌, ◌||◌}
 use mathlib.Core.List.{List, [], ◌∷◌}
 use Prim.Native.Nat.{ℕ, ◌+◌, ◌%◌, ◌^◌, ◌≤◌}
-use native.Mathlib.Omega.{arith}
 use lib.ListN.{length}
 use lib.Dec.{eqb}
 use borrow.Author.Tests.{eqb-true}
@@ -20,7 +19,7 @@ use Rattle.refusal.specs.Refusal.{is_refused}
 use Rattle.symbol.specs.declared.Tables.{Tables}
 use Rattle.symbol.specs.Entry.{entry_start}
 use Rattle.frame.proofs.Fields.{fields_apart, put_other}
-use Rattle.mend.specs.Mend.{Mend, Change, change_of, changes_by, put, put_all}
+use Rattle.mend.specs.Mend.{Mend, change_of, changes_by, put, put_all}
 
 abbrev same_field : Field → Field → Bool
 same_field a b = eqb a.offset b.offset && eqb (bytes_in a.width) (bytes_in b.width)

@@ -1,5 +1,5 @@
 -- Which checks refuse an entry, by the tests of the code. Assumes nothing.
-use mathlib.Core.Path.{◌≡◌, refl, sym, ap}
+use mathlib.Core.Path.{◌≡◌, refl}
 use mathlib.Core.Bool.{Bool, not}
 use mathlib.Core.List.{List}
 use Prim.Native.Nat.{ℕ, ◌+◌}
@@ -15,7 +15,6 @@ use Rattle.symbol.specs.Entry.{OpenTables}
 use Rattle.symbol.specs.Name.{has_name}
 use Rattle.symbol.specs.Symbol.{is_section, aux_check, scnum_check, name_check, visibility_check}
 use Rattle.symbol.proofs.Names.{name-judged}
-use Rattle.mend.specs.declared.EntryRefusals.{EntryRefusals}
 use Rattle.mend.specs.Entry.{refusals_of}
 
 module _ (file : List ℕ) (t : Tables) (i : SymbolIndex) (e : SymbolEntry) where

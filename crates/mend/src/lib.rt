@@ -1,5 +1,6 @@
 // One entry of the symbol table mended: which checks refuse it, the fields that are set for them, and their rows of a report.
 #![tactic(auto)]
+
 ghost use Rattle.std.specs.Prelude.{◌≡◌, ◌+◌, ◌≤◌, ◌<◌, length};
 ghost use Rattle.word.specs.Number.{bytes_in};
 ghost use Rattle.format.specs.Layout.{symbol_length};

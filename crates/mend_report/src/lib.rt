@@ -1,5 +1,6 @@
 // What the report says of a mended entry: its refusals in order, how many, and the auxiliaries that are passed over.
 #![tactic(auto)]
+
 ghost use Rattle.std.specs.Prelude.{◌≡◌, ◌+◌, ◌≤◌, length};
 ghost use Rattle.mend.specs.Report.{put_bytes};
 ghost use Rattle.mend.specs.Entry.{mended_aux, row_if, rows_by, refused_in};

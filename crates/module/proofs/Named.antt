@@ -1,13 +1,13 @@
 -- What a module's refusals name is there, and where offsets find its loader section. Assumes nothing.
-use Prim.Native.Nat.{ℕ, ◌+◌, ◌≤◌, ◌<◌}
-use mathlib.Core.Path.{◌≡◌, refl, sym, ◌∙◌}
-use mathlib.Core.Bool.{Bool, true, false, not, ◌&&◌, ◌||◌}
+use Prim.Native.Nat.{ℕ, ◌+◌, ◌≤◌}
+use mathlib.Core.Path.{◌≡◌, refl}
+use mathlib.Core.Bool.{false, not, ◌&&◌, ◌||◌}
 use mathlib.Core.List.{List}
 use native.Mathlib.Omega.{arith}
 use lib.Dec.{eqb, ltb}
 use lib.ListN.{length}
 use borrow.Author.Tests.{not-false}
-use Rattle.section_kind.specs.declared.SectionKind.TheVariants.{Loader, Tdata, Tbss}
+use Rattle.section_kind.specs.declared.SectionKind.TheVariants.{Tdata, Tbss}
 use Rattle.section_kind.specs.Kind.{flags_of}
 use Rattle.format.specs.Layout.{aux_layout}
 use Rattle.format.specs.Limit.{data_image_limit}
@@ -29,7 +29,7 @@ use Rattle.offset.proofs.Named.{plain-named, named_by}
 use Rattle.header.specs.declared.Summary.{Summary}
 use Rattle.header.specs.Open.{open_of}
 use Rattle.header.proofs.Named.{Opens, opens, opened-named, format-is, section-there}
-use Rattle.parts.specs.Sections.{flag_at, tally_of, tallies_of, one_each, part_at, parts_of, thread_at, thread_check}
+use Rattle.parts.specs.Sections.{flag_at, tallies_of, one_each, part_at, parts_of, thread_at, thread_check}
 use Rattle.parts.proofs.Loader.{loader-there}
 use Rattle.parts.proofs.Tallied.{Known, each-known}
 use Rattle.auxiliary.specs.Auxiliary.{numbers_agree, sizes_agree}

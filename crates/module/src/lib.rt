@@ -1,5 +1,6 @@
 // The loadable module: its sections judged in their order, and the extent of its data image.
 #![tactic(auto)]
+
 ghost use Rattle.std.specs.Prelude.{◌≡◌, ◌+◌, ◌≤◌, ◌<◌, true, false, ◌||◌, ltb, length};
 ghost use Rattle.format.specs.Limit.{data_image_limit};
 ghost use Rattle.module.specs.Module.{lacks_data, is_anchor, bss_below, image_length};

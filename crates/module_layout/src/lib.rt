@@ -1,5 +1,6 @@
 // A file's module: its sections judged together, and what is kept of them.
 #![tactic(auto)]
+
 ghost use Rattle.std.specs.Prelude.{◌≡◌, ◌≤◌, ◌<◌, true, length};
 ghost use Rattle.format.specs.Layout.{aux_layout};
 ghost use Rattle.refusal.specs.Order.{◌or_else◌, by_verdict};

@@ -6,7 +6,7 @@ use mathlib.Core.List.{List}
 use native.Mathlib.Nat.{zero-mul, mul-le-mul_right}
 use native.Mathlib.Omega.{arith}
 use lib.Dec.{eqb}
-use lib.ListN.{length, get_or}
+use lib.ListN.{length}
 use Rattle.word.specs.Test.{past}
 use Rattle.word.proofs.Test.{either}
 use Rattle.section_kind.specs.declared.KindAnswer.{KindAnswer}
@@ -22,7 +22,7 @@ use Rattle.refusal.specs.declared.Refusal.{Refusal}
 use Rattle.refusal.specs.declared.Refusal.TheVariants as refusal
 use Rattle.refusal.specs.declared.Verdict.{Verdict}
 use Rattle.refusal.specs.declared.Verdict.TheVariants as verdict
-use Rattle.refusal.specs.Order.{◌or_else◌, refuse_if, by_verdict}
+use Rattle.refusal.specs.Order.{by_verdict}
 use Rattle.refusal.proofs.Causes.{Causes, cause-if, cause-test, cause-then, cause-first}
 use Rattle.refusal.proofs.Order.{not-accepted}
 use Rattle.section.specs.declared.Section.{Section}
@@ -32,7 +32,7 @@ use Rattle.section.specs.declared.SectionHeader.{SectionHeader}
 use Rattle.section.specs.Section.{section_header_at, raw_data_past, misplaced, section_of, judge_kind, judge_section}
 use Rattle.file_header.specs.declared.FileHeader.{FileHeader}
 use Rattle.file_header.specs.Header.{header_at, section_start}
-use Rattle.file_tables.specs.Tables.{blank_section, judged_at, verdict_of, record_of}
+use Rattle.file_tables.specs.Tables.{judged_at, verdict_of, record_of}
 use Rattle.offset.specs.Offset.{starts_as, section_relocation_place}
 use Rattle.offset.specs.Named.{Named, section_table_start, NamesSectionRelocation}
 use Rattle.offset.proofs.Named.{plain-named, named_by, section-relocation-named}
@@ -50,7 +50,7 @@ use Rattle.section_tables.specs.declared.TableAnswer.TheVariants as table
 use Rattle.section_tables.specs.Tables.{header_start, is_overflowed, overflow_of, table_at, table_by, table_of}
 use Rattle.section_tables.proofs.Named.{TableCauses, table-named}
 use Rattle.section_relocation.specs.declared.ObjectSection.{ObjectSection}
-use Rattle.section_relocation.specs.Entry.{entry_in, field_in, name_of, TableReady}
+use Rattle.section_relocation.specs.Entry.{entry_in, field_in, name_of}
 use Rattle.section_overlap.specs.Overlap.{meets}
 use Rattle.object_entry.specs.Entry.{is_good, own_at}
 use Rattle.section_entries.specs.Entries.{entry_check, entries_check}

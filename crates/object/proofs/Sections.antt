@@ -1,20 +1,19 @@
 -- Laws of an object file's sections. Assumes nothing.
-use Prim.Native.Nat.{ℕ, zero, suc, ◌+◌, ◌-◌, ◌*◌, ◌≤◌, ◌<◌}
-use mathlib.Core.Path.{◌≡◌, refl, sym, ◌∙◌, ap, ap₂, subst}
+use Prim.Native.Nat.{ℕ, zero, suc, ◌+◌, ◌*◌, ◌≤◌, ◌<◌}
+use mathlib.Core.Path.{◌≡◌, refl, sym, ◌∙◌, ap, ap₂}
 use mathlib.Core.Bool.{Bool, true, false, not, cond, ◌&&◌, ◌||◌}
 use mathlib.Core.List.{List}
-use native.Mathlib.Decide.{dec_lt, ℕ_discrete}
+use native.Mathlib.Decide.{dec_lt}
 use native.Mathlib.Numerals.{add-one}
 use native.Mathlib.Nat.{zero-mul}
 use native.Mathlib.Omega.{arith}
 use lib.Dec.{eqb}
-use lib.ListN.{length, get_or}
-use borrow.Author.Tests.{eq-eqb, ne_eqb, not-false}
-use Rattle.word.proofs.Test.{either, and_first, and_second}
+use lib.ListN.{length}
+use borrow.Author.Tests.{ne_eqb}
 use Rattle.section_kind.specs.declared.SectionKind.{SectionKind}
 use Rattle.section_kind.specs.Kind.{flags_of}
 use Rattle.format.specs.declared.Format.{Format}
-use Rattle.format.specs.Limit.{file_limit, section_limit}
+use Rattle.format.specs.Limit.{file_limit}
 use Rattle.refusal.specs.declared.ModuleItem.TheVariants.{NoRawData}
 use Rattle.refusal.specs.declared.Refusal.TheVariants as refusal
 use Rattle.refusal.specs.declared.Verdict.{Verdict}
@@ -23,7 +22,6 @@ use Rattle.refusal.specs.Order.{◌or_else◌, refuse_if}
 use Rattle.refusal.proofs.Order.{accepted-first, accepted-rest, accepted-test, first-all, not-accepted}
 use Rattle.header.specs.declared.Summary.{Summary}
 use Rattle.header.specs.Inside.{Inside}
-use Rattle.section.specs.Section.{SectionWithin}
 use Rattle.symbol.specs.declared.Tables.{Tables}
 use Rattle.symbol.specs.Entry.{OpenTables, tables_of}
 use Rattle.symbol.proofs.Opened.{summary-inside}

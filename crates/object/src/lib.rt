@@ -1,5 +1,6 @@
 // Object files: the text and data sections with their own relocation tables, judged in order; how many entries there are, and how long the buffer is.
 #![tactic(auto)]
+
 ghost use Rattle.std.specs.Prelude.{◌≡◌, ◌≤◌, ◌<◌, length};
 ghost use Rattle.format.specs.Limit.{section_limit};
 ghost use Rattle.object.specs.Sections.{is_held_kind, table_or, empty_part, part_at};

@@ -1,5 +1,6 @@
 // Relocation entries of an object file applied to its buffer.
 #![tactic(auto)]
+
 ghost use Rattle.std.specs.Prelude.{◌≡◌, ◌+◌, ◌^◌, ◌<◌, ◌≤◌, length};
 ghost use Rattle.update.specs.Update.{remainder};
 ghost use Rattle.field_kind.specs.Field.{add_to};

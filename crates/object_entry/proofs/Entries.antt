@@ -1,14 +1,12 @@
 -- Laws of entries with their symbols. Assumes nothing.
 use Prim.Native.Nat.{ℕ, ◌≤◌, ◌<◌}
-use mathlib.Core.Path.{◌≡◌, refl, sym, ◌∙◌, ap}
-use mathlib.Core.Bool.{Bool, true, false, not, ◌&&◌}
+use mathlib.Core.Path.{◌≡◌, refl, ◌∙◌, ap}
+use mathlib.Core.Bool.{Bool, true, false, not}
 use mathlib.Core.List.{List}
 use native.Mathlib.Decide.{ℕ_discrete, dec_lt}
 use native.Mathlib.Omega.{arith}
-use lib.Dec.{leb}
 use borrow.Author.Tests.{leb-true, not-false}
 use Rattle.word.proofs.Test.{and_first, and_second}
-use Rattle.format.specs.declared.SymbolIndex.{SymbolIndex}
 use Rattle.refusal.specs.declared.Verdict.TheVariants.{Accepted, Refused}
 use Rattle.refusal.specs.declared.Refusal.TheVariants.{SectionLrel, Scnum}
 use Rattle.refusal.proofs.Order.{accepted-test}
@@ -16,7 +14,6 @@ use Rattle.symbol.specs.declared.Tables.{Tables}
 use Rattle.symbol.specs.declared.Symbol.{Symbol}
 use Rattle.symbol.specs.declared.SymbolAnswer.{SymbolAnswer}
 use Rattle.symbol.specs.declared.SymbolAnswer.TheVariants as answer
-use Rattle.symbol.specs.declared.SymbolSection.{SymbolSection}
 use Rattle.symbol.specs.Entry.{entry_of}
 use Rattle.symbol.specs.Symbol.{section_in, is_section, scnum_check, symbol_in}
 use Rattle.symbol.proofs.Sections.{section-positive, named_none, named-section, named-debug, named-absolute}
@@ -24,7 +21,6 @@ use Rattle.symbol.proofs.Checks.{symbol-known, symbol-accepted}
 use Rattle.section_relocation.specs.declared.ObjectSection.{ObjectSection}
 use Rattle.section_relocation.specs.declared.SectionEntry.{SectionEntry}
 use Rattle.section_relocation.specs.Entry.{entry_in, is_held, field_in, name_of}
-use Rattle.object_history.specs.declared.ObjectEntry.{ObjectEntry}
 use Rattle.object_entry.specs.Entry.{is_read, is_good, own_at, section_moved, symbol_moves, applied, object_entry}
 
 -- ---- LREL

@@ -1,5 +1,6 @@
 // Entries of an object file with their symbols: each judged by itself, and as it is applied.
 #![tactic(auto)]
+
 ghost use Rattle.std.specs.Prelude.{◌≡◌, ◌<◌};
 ghost use Rattle.symbol.specs.Entry.{OpenTables};
 ghost use Rattle.symbol.specs.Symbol.{section_in};

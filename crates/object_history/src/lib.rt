@@ -1,5 +1,6 @@
 // Builds and moves of an object file: its one buffer, the entries of its sections' relocation tables, RANGE, and its book. Definitions and theorems; no code.
 #![tactic(auto)]
+
 use field_kind::ObjectField;
 use refusal::SectionRelocation;
 

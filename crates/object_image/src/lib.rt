@@ -1,5 +1,6 @@
 // Object files built for a plan, and moved from one plan to another, in one buffer.
 #![tactic(auto)]
+
 ghost use Rattle.std.specs.Prelude.{◌≡◌, length};
 ghost use Rattle.refusal.specs.Order.{◌or_else◌};
 ghost use Rattle.offset.specs.Report.{report_head};

@@ -1,6 +1,6 @@
 -- What the refusals of builds and moves of an object file name is there. Assumes nothing.
 use Prim.Native.Nat.{ℕ, zero, suc, ◌+◌, ◌≤◌, ◌<◌}
-use mathlib.Core.Path.{◌≡◌, refl, sym, ap, subst}
+use mathlib.Core.Path.{◌≡◌, refl, sym, subst}
 use mathlib.Core.Bool.{not, ◌&&◌}
 use mathlib.Core.List.{List, [], ◌∷◌}
 use native.Mathlib.Omega.{arith}
@@ -24,14 +24,13 @@ use Rattle.symbol.specs.Entry.{tables_of}
 use Rattle.book.specs.Machine.{Shifts}
 use Rattle.book.specs.Entries.{All}
 use Rattle.section_relocation.specs.declared.ObjectSection.{ObjectSection}
-use Rattle.section_relocation.specs.Entry.{name_of}
 use Rattle.object_entry.proofs.Entries.{entry-name}
 use Rattle.object.specs.Sections.{object_section}
 use Rattle.object.specs.Check.{sections_check, tables_check, object_in, object_check}
 use Rattle.object.proofs.Named.{check-named, range-named}
 use Rattle.object_history.specs.declared.ObjectEntry.{ObjectEntry}
 use Rattle.object_history.specs.Range.{out_of_range, range_from}
-use Rattle.object_history.specs.Object.{Object, Placed, Plan, section_of, displacements, differences, list_check, address_check, section_check, fit_check}
+use Rattle.object_history.specs.Object.{Object, Plan, section_of, displacements, differences, list_check, address_check, section_check, fit_check}
 use Rattle.object_history.specs.Call.{Call, build, move, room_check, range_check, call_check}
 use Rattle.object_plan.specs.Object.{entries_from, table_entries, entries_in, object_of}
 use Rattle.object_plan.proofs.Sound.{all_append}

@@ -1,26 +1,22 @@
 -- What an accepted object file leaves known. Assumes nothing.
-use Prim.Native.Nat.{ℕ, ◌+◌, ◌≤◌, ◌<◌}
-use mathlib.Core.Path.{◌≡◌, refl, sym, ◌∙◌, ap}
-use mathlib.Core.List.{List, []}
+use Prim.Native.Nat.{ℕ, ◌≤◌, ◌<◌}
+use mathlib.Core.Path.{◌≡◌, sym, ◌∙◌, ap}
+use mathlib.Core.List.{List}
 use native.Mathlib.Omega.{arith}
 use lib.ListN.{length}
 use Rattle.refusal.specs.declared.Verdict.{Verdict}
 use Rattle.refusal.specs.declared.Verdict.TheVariants as verdict
-use Rattle.refusal.specs.Order.{if_accepted}
 use Rattle.refusal.proofs.Order.{accepted-rest, first-all}
 use Rattle.header.specs.declared.Summary.{Summary}
 use Rattle.header.specs.Inside.{Inside}
-use Rattle.header.specs.Open.{open_of}
 use Rattle.symbol.specs.declared.Tables.{Tables}
 use Rattle.symbol.specs.Entry.{tables_of}
 use Rattle.section_relocation.specs.declared.ObjectSection.{ObjectSection}
 use Rattle.section_entries.specs.Entries.{entries_check}
 use Rattle.object.specs.Sections.{bytes_before, entries_before, object_section}
-use Rattle.object.specs.Check.{Ready, SectionsReady, sections_check, table_check, tables_check, object_in, object_check}
+use Rattle.object.specs.Check.{Ready, sections_check, table_check, tables_check, object_in, object_check}
 use Rattle.object.proofs.Sections.{part-number, ready-inside, sections-entries}
 use Rattle.object.proofs.Answer.{sections-ready}
-use Rattle.object_history.specs.declared.ObjectEntry.{ObjectEntry}
-use Rattle.object_history.specs.Object.{Object, Placed}
 use Rattle.object_plan.specs.Object.{entries_in, raw_in, placed_in, object_of}
 use Rattle.object_plan.specs.Ready.{ObjectReady, PartReady}
 

@@ -1,12 +1,12 @@
 -- An accepted object file is sound: its fields are inside the raw bytes, and each two are the same or share no byte. Assumes nothing.
-use Prim.Native.Nat.{ℕ, zero, suc, ◌+◌, ◌-◌, ◌*◌, ◌≤◌, ◌<◌}
-use mathlib.Core.Path.{◌≡◌, refl, sym, ◌∙◌, ap, ap₂, subst}
-use mathlib.Core.Logic.{◌⊎◌, inl, inr, ⊎_elim}
+use Prim.Native.Nat.{ℕ, zero, suc, ◌+◌, ◌-◌, ◌≤◌, ◌<◌}
+use mathlib.Core.Path.{◌≡◌, refl, sym, ◌∙◌, ap, ap₂}
+use mathlib.Core.Logic.{inl, inr}
 use mathlib.Core.Bool.{Bool, true, false}
 use mathlib.Core.List.{List, [], ◌∷◌, ◌++◌}
 use native.Mathlib.Decide.{dec_lt}
 use native.Mathlib.Omega.{arith}
-use lib.ListN.{length, take, drop, length-append, length-drop}
+use lib.ListN.{length, drop, length-append, length-drop}
 use lib.Seq.{length-take-le}
 use Rattle.refusal.specs.declared.Verdict.{Verdict}
 use Rattle.refusal.specs.declared.Verdict.TheVariants as verdict
@@ -23,19 +23,19 @@ use Rattle.symbol.specs.Entry.{tables_of}
 use Rattle.field_kind.specs.declared.FieldKind.{FieldKind}
 use Rattle.field_kind.specs.declared.FieldKind.TheVariants as kind
 use Rattle.field_kind.specs.declared.ObjectField.{ObjectField}
-use Rattle.field_kind.specs.Field.{bytes_in, place, FieldsCompatible}
+use Rattle.field_kind.specs.Field.{bytes_in, FieldsCompatible}
 use Rattle.section_relocation.specs.declared.ObjectSection.{ObjectSection}
-use Rattle.section_relocation.specs.Entry.{has_bytes, entry_in, effect_of, effect_or, field_by, field_of, field_in, TableReady}
+use Rattle.section_relocation.specs.Entry.{has_bytes, entry_in, effect_of, effect_or, field_by, field_of, field_in}
 use Rattle.section_relocation.proofs.Entries.{FieldIn, field-in-held}
 use Rattle.section_overlap.specs.Overlap.{overlaps}
 use Rattle.section_overlap.proofs.Rule.{no-overlap}
-use Rattle.object_entry.specs.Entry.{own_at, object_entry}
+use Rattle.object_entry.specs.Entry.{object_entry}
 use Rattle.object_entry.proofs.Entries.{held, entry-field}
 use Rattle.section_entries.specs.Entries.{entries_check}
 use Rattle.section_entries.proofs.Accepted.{own-accepted, none-overlaps}
 use Rattle.object.specs.Sections.{bytes_before, entries_before, object_section}
-use Rattle.object.specs.Check.{sections_check, table_check, tables_check, object_in, object_check, Ready}
-use Rattle.object.proofs.Sections.{part-place, bytes-more, part-ready, ready-inside}
+use Rattle.object.specs.Check.{sections_check, table_check, tables_check, object_in, object_check}
+use Rattle.object.proofs.Sections.{part-place, bytes-more, part-ready}
 use Rattle.book.specs.Entries.{All, Pairwise}
 use Rattle.object_history.specs.declared.ObjectEntry.{ObjectEntry}
 use Rattle.object_history.specs.Entry as history

@@ -1,5 +1,5 @@
 -- What is known once an object file is accepted: of all its sections, and of one.
-use Rattle.std.specs.Prelude.{◌≡◌, List, ℕ, ◌≤◌, length}
+use Rattle.std.specs.Prelude.{◌≡◌, List, ℕ, ◌≤◌}
 use Rattle.refusal.specs.declared.Verdict.TheVariants.{Accepted}
 use Rattle.format.specs.Limit.{section_limit}
 use Rattle.header.specs.declared.Summary.{Summary}

@@ -29,12 +29,11 @@ use Rattle.object_entry.specs.Entry.{object_entry}
 use Rattle.object_entry.proofs.Entries.{entry-name}
 use Rattle.section_entries.proofs.Order.{first-is, first-none}
 use Rattle.object.specs.Sections.{bytes_before, entries_before, object_section}
-use Rattle.object.specs.Check.{sections_check, tables_check}
 use Rattle.object.proofs.Sections.{part-place, part-ready, ready-inside}
-use Rattle.object_plan.specs.Object.{entries_from, table_entries, entries_in, raw_in, object_of}
+use Rattle.object_plan.specs.Object.{entries_from, table_entries, entries_in, object_of}
 use Rattle.object_plan.specs.Ready.{ObjectReady}
 use Rattle.object_plan.proofs.Ready.{object-entries, object-raw}
-use Rattle.object_plan.proofs.Sound.{Between, entry-between, table-good, ends, part-inside}
+use Rattle.object_plan.proofs.Sound.{entry-between, table-good, ends, part-inside}
 use Rattle.branch_range.specs.Range.{sum_on, is_out, FirstOut, word_from}
 use Rattle.branch_range.proofs.Sums.{sum-amounts}
 use Rattle.object_range.specs.declared.Source.{Source}

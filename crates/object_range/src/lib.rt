@@ -1,5 +1,6 @@
 // RANGE of an object file: the first entry, over its sections in order, that is on a branch word whose exact sum is out of range.
 #![tactic(auto)]
+
 ghost use Rattle.std.specs.Prelude.{◌≡◌, length};
 ghost use Rattle.object_history.specs.Call.{range_check};
 ghost use Rattle.object_plan.specs.Object.{object_of};

@@ -3,7 +3,7 @@ use Prim.Native.Nat.{ℕ, suc, ◌+◌, ◌-◌, ◌≤◌, ◌<◌}
 use mathlib.Core.Path.{◌≡◌, refl, sym, ◌∙◌, ap, ap₂}
 use mathlib.Core.List.{List, [], ◌++◌, append-nil, append_assoc}
 use native.Mathlib.Decide.{dec_lt}
-use native.Mathlib.Nat.{add_assoc, sub-zero}
+use native.Mathlib.Nat.{sub-zero}
 use native.Mathlib.Numerals.{add-one}
 use native.Mathlib.Omega.{arith}
 use lib.ListN.{length, get_or, set, take, drop, length-drop}
@@ -12,7 +12,7 @@ use Rattle.header.specs.declared.Summary.{Summary}
 use Rattle.symbol.specs.declared.Tables.{Tables}
 use Rattle.section_relocation.specs.declared.ObjectSection.{ObjectSection}
 use Rattle.object.specs.Sections.{bytes_before, entries_before, object_section}
-use Rattle.object.proofs.Sections.{ready-inside, bytes_next, part-place}
+use Rattle.object.proofs.Sections.{ready-inside, part-place}
 use Rattle.object_plan.specs.Object.{raw_of, raw_in, object_of}
 use Rattle.object_plan.specs.Ready.{ObjectReady}
 use Rattle.object_plan.proofs.Ready.{object-raw, part-good}

@@ -1,5 +1,6 @@
 // The raw bytes of an object file's text and data sections copied into the buffer, end to end.
 #![tactic(auto)]
+
 ghost use Rattle.std.specs.Prelude.{◌≡◌, ◌+◌, ◌≤◌, ◌<◌, length, drop};
 ghost use Rattle.std.proofs.Math.Seq.{paste};
 ghost use Rattle.object_plan.specs.Object.{object_of};

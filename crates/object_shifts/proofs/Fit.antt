@@ -13,7 +13,6 @@ use Rattle.format.specs.Layout.{address_limit}
 use Rattle.refusal.specs.declared.PlanItem.TheVariants.{SectionAddress}
 use Rattle.refusal.specs.declared.RoomItem.TheVariants.{AddressList}
 use Rattle.refusal.specs.declared.Refusal.TheVariants as refusal
-use Rattle.refusal.specs.declared.Verdict.{Verdict}
 use Rattle.refusal.specs.declared.Verdict.TheVariants.{Accepted, Refused}
 use Rattle.refusal.specs.Refusal.{is_refused}
 use Rattle.refusal.specs.Order.{first_of, refuse_if}
@@ -21,8 +20,8 @@ use Rattle.refusal.proofs.Order.{refused-if, first-turn, first-stop, first-start
 use Rattle.header.specs.declared.Summary.{Summary}
 use Rattle.symbol.specs.declared.Tables.{Tables}
 use Rattle.object.specs.Sections.{section_at}
-use Rattle.object_history.specs.Object.{Placed, Plan, unplaced, list_check, address_check, section_check, fit_check}
-use Rattle.object_plan.specs.Object.{placed_at, placed_in, object_of}
+use Rattle.object_history.specs.Object.{Plan, list_check, address_check, section_check, fit_check}
+use Rattle.object_plan.specs.Object.{placed_in, object_of}
 use Rattle.object_plan.specs.Ready.{ObjectReady}
 use Rattle.object_shifts.specs.Places.{planned_by}
 use Rattle.object_shifts.proofs.Places.{placed-length, placed-here}

@@ -1,5 +1,6 @@
 // Plans for an object file: the addresses of its sections by section number, which shifts are made of, and whether a plan is accepted.
 #![tactic(auto)]
+
 ghost use Rattle.std.specs.Prelude.{◌≡◌, cond, not, ◌&&◌, ◌+◌, ◌≤◌, ltb, leb, length};
 ghost use Rattle.section_kind.specs.Kind.{is_placed_kind};
 ghost use Rattle.format.specs.Limit.{section_limit};

@@ -1,5 +1,6 @@
 // Where in the file the section header or table entry lies that a refusal's item names.
 #![tactic(auto)]
+
 ghost use Rattle.std.specs.Prelude.{◌≡◌, cond, ◌-◌, ◌≤◌, ◌<◌, length};
 ghost use Rattle.format.specs.Limit.{file_limit};
 ghost use Rattle.file_header.specs.Header.{Bounded, HeaderComplete, header_check};

@@ -1,5 +1,6 @@
 // Overlapping fields: none where the fields are aligned or ascend; otherwise found in one pass over the entries for each window of a section that has a field.
 #![tactic(auto)]
+
 ghost use Rattle.std.specs.Prelude.{◌≡◌, ◌+◌, ◌≤◌, ◌<◌, length};
 ghost use Rattle.format.specs.Limit.{file_limit};
 ghost use Rattle.relocation.specs.Relocation.{place_at};

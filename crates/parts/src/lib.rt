@@ -1,5 +1,6 @@
 // Which section of a file is text, data, bss and loader: one of each, and no thread-local one.
 #![tactic(auto)]
+
 ghost use Rattle.std.specs.Prelude.{◌≡◌, ◌+◌, ◌≤◌, ◌<◌, true, false, cond, ◌||◌, eqb};
 ghost use Rattle.format.specs.Limit.{section_limit};
 ghost use Rattle.refusal.specs.Order.{first_of};

@@ -4,7 +4,6 @@ use mathlib.Core.Bool.{Bool, true, false, cond}
 use mathlib.Core.List.{List}
 use Prim.Native.Nat.{ℕ, zero, suc, ◌+◌, ◌≤◌, ◌<◌}
 use native.Mathlib.Omega.{arith}
-use Rattle.refusal.specs.declared.Refusal.{Refusal}
 use Rattle.relocation.specs.Relocation.{place_at}
 use Rattle.field_overlap.specs.Overlap.{Compatible}
 use Rattle.loadable.specs.declared.Loadable.{Loadable}

@@ -22,7 +22,7 @@ use Rattle.loadable.specs.Loadable.{loadable_at}
 use Rattle.history.specs.declared.Followed.{Followed}
 use Rattle.history.specs.declared.Followed.TheVariants as followed
 use Rattle.history.specs.declared.Relocation.{Relocation}
-use Rattle.history.specs.Images.{Images, images}
+use Rattle.history.specs.Images.{images}
 use Rattle.history.specs.Plan.{Anchored, Relocatable}
 use Rattle.history.specs.Plan.Anchored.{none, in_text, in_data}
 

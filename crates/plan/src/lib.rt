@@ -1,5 +1,6 @@
 // Plans for a module: which address each symbol follows, and whether a plan's addresses fit.
 #![tactic(auto)]
+
 ghost use Rattle.std.specs.Prelude.{◌≡◌, ◌+◌, ◌*◌, ◌≤◌, ◌<◌, length};
 ghost use Rattle.format.specs.Layout.{loader_symbol_length};
 ghost use Rattle.format.specs.Limit.{file_limit};

@@ -1,5 +1,6 @@
 // PLAN: whether the images fit at a plan's addresses, and its imports' addresses in their fields.
 #![tactic(auto)]
+
 ghost use Rattle.std.specs.Prelude.{◌≡◌, ◌+◌, ◌<◌, length};
 ghost use Rattle.format.specs.Layout.{address_limit};
 ghost use Rattle.refusal.specs.Refusal.{is_refused};

@@ -1,27 +1,19 @@
 -- A module written for a plan builds and moves as the first one does. Assumes nothing.
 use mathlib.Core.Path.{◌≡◌, refl, sym, ◌∙◌, ap, ap₂, fun_ext}
 use mathlib.Core.Bool.{Bool, true, false}
-use mathlib.Core.List.{List, [], ◌∷◌, map}
+use mathlib.Core.List.{List, [], ◌∷◌}
 use Prim.Native.Nat.{ℕ, zero, suc, ◌+◌, ◌<◌}
-use native.Mathlib.Omega.{arith}
 use lib.Dec.{lit<}
 use lib.ListN.{length, get_or, length-map, get_or-map}
-use lib.IntN.{ℤ, pos, neg_ℤ, ◌+ℤ◌, ◌-ℤ◌, +ℤ_comm, +ℤ_assoc, +ℤ_invr, +ℤ_idr, neg_ℤ-neg_ℤ, neg_ℤ-+ℤ, -ℤ-+ℤ_cancel}
+use lib.IntN.{ℤ, pos, neg_ℤ, ◌+ℤ◌, ◌-ℤ◌, +ℤ_comm, +ℤ_assoc, neg_ℤ-neg_ℤ, neg_ℤ-+ℤ, -ℤ-+ℤ_cancel}
 use Rattle.format.specs.declared.Format.{Format}
 use Rattle.format.specs.declared.Format.TheVariants.{Xcoff32, Xcoff64}
 use Rattle.format.specs.Layout.{address_limit}
-use Rattle.refusal.specs.declared.Verdict.{Verdict}
-use Rattle.refusal.specs.declared.Verdict.TheVariants.{Accepted, Refused}
-use Rattle.refusal.specs.Order.{◌or_else◌, first_of, by_verdict}
-use Rattle.refusal.proofs.Order.{accepted-first}
 use Rattle.update.specs.Update.{remainder}
 use Rattle.update.proofs.Remainder.{remainder-add}
 use Rattle.history.specs.declared.Followed.{Followed}
 use Rattle.history.specs.declared.Followed.TheVariants as followed
-use Rattle.history.specs.declared.AnchorAddress.{AnchorAddress}
-use Rattle.history.specs.declared.AnchorAddress.TheVariants.{Nowhere, At}
-use Rattle.history.specs.declared.CallAnswer.{CallAnswer}
-use Rattle.history.specs.declared.CallAnswer.TheVariants as answer
+use Rattle.history.specs.declared.AnchorAddress.TheVariants.{At}
 use Rattle.history.specs.Images.{Images, Shifts, apply_all, length_of}
 use Rattle.history.specs.Plan.{Relocatable, Plan, Anchored, limit_of, Sound, followed_by, displacement_of, displacements, differences, built_images, moved_address, reached_by, list_check, address_check, import_check, fit_check, plan_check}
 use Rattle.history.specs.Plan.Anchored.{none, in_text, in_data}

@@ -1,6 +1,6 @@
 -- The plan of a module's recorded addresses. Assumes nothing.
-use mathlib.Core.Path.{◌≡◌, refl, sym, ◌∙◌, ap, fun_ext}
-use mathlib.Core.List.{List, map}
+use mathlib.Core.Path.{◌≡◌, refl, ◌∙◌, ap, fun_ext}
+use mathlib.Core.List.{map}
 use Prim.Native.Nat.{ℕ, zero, suc, ◌<◌}
 use native.Mathlib.Nat.{mod-eq_of_lt}
 use lib.ListN.{get_or, get_or-map}

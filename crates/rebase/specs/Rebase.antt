@@ -1,5 +1,5 @@
 -- A module whose recorded addresses are a plan's.
-use Rattle.std.specs.Prelude.{ℕ, ◌≡◌, List, map, get_or, pos, ◌+ℤ◌}
+use Rattle.std.specs.Prelude.{ℕ, ◌≡◌, map, get_or, pos, ◌+ℤ◌}
 use Rattle.update.specs.Update.{remainder}
 use Rattle.history.specs.declared.Followed.{Followed}
 use Rattle.history.specs.declared.Followed.TheVariants as followed

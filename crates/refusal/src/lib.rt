@@ -1,5 +1,6 @@
 // Why a file, plan, sheet or buffer is refused: one case for each number of document 01, and under it one for each cause.
 #![tactic(auto)]
+
 ghost use Rattle.std.specs.Prelude.{◌≡◌, length};
 ghost use Rattle.refusal.specs.Part.{range_bytes, range_found, Within};
 ghost use Rattle.refusal.specs.Refusal.{number_of, item_of, accepted_head, refused_head, one_if, is_refused, limit_item, bounds_item, address_item, index_item, module_item, thread_item, loader_item, plan_item, room_item};

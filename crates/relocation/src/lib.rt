@@ -1,5 +1,6 @@
 // Loader relocation entries: read, judged each by itself, and the field that each names.
 #![tactic(auto)]
+
 ghost use Rattle.std.specs.Prelude.{◌≡◌, true, ◌+◌, ◌*◌, ◌≤◌, ◌<◌, length};
 ghost use Rattle.format.specs.Layout.{relocation_layout};
 ghost use Rattle.relocation.specs.Relocation.{entry_at, is_type, is_width, bytes_wide, is_wide, is_inside, is_held, is_good, place_of, entry_in, own_at, place_at, EntriesInside};

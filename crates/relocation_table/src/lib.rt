@@ -1,5 +1,6 @@
 // Relocation entries listed whole: the module is judged once, and each gets a row of numbers.
 #![tactic(auto)]
+
 ghost use Rattle.std.specs.Prelude.{◌≡◌, ◌*◌, ◌<◌, length};
 ghost use Rattle.loadable.specs.Valid.{Valid};
 ghost use Rattle.rows.specs.Rows.{rows_of};

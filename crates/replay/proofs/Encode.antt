@@ -1,13 +1,12 @@
 -- Every list of calls is the list of a script: the one that `encode` gives.
 use mathlib.Core.Path.{◌≡◌, refl, sym, ◌∙◌}
-use mathlib.Core.List.{List, ◌∷◌, ◌++◌}
-use Prim.Native.Nat.{ℕ, ◌+◌}
+use mathlib.Core.List.{List, ◌++◌}
+use Prim.Native.Nat.{◌+◌}
 use native.Mathlib.Omega.{arith}
 use lib.ListN.{length, length-append}
 use lib.Seq.{take-append_seam}
 use Rattle.script.proofs.Encode.{Readable, from-get_d, from_first, from-drop, from-length}
 use Rattle.script.proofs.Encode as script
-use Rattle.history.specs.Plan.{Plan}
 use Rattle.history.specs.Call.{Call}
 use Rattle.replay.specs.Script.{plan_end, plan_at, plans, calls_of, plan_numbers, encode}
 use Rattle.replay.proofs.Ends.{plan-whole}

@@ -1,5 +1,6 @@
 // A list of calls, run: its contract is document 01's book.
 #![tactic(auto)]
+
 ghost use Rattle.std.specs.Prelude.{◌≡◌, ◌+◌, ◌≤◌, length, get_or};
 ghost use Rattle.replay.specs.Script.{plan_end, plan_at, call_end};
 ghost use Rattle.replay.specs.Answer.{accepted_one, report_of_replay};

@@ -100,9 +100,9 @@ module _ (f : Format) (file : List ℕ) where
   header-format = refl
 
   -- the record of section i
-  pub record_of : Reads f file → (i : ℕ) → i < (header_at f file).nscns → get_or (summary_as f file).sections i blank_section ≡ record_of (judged_at file (header_at f file) i)
+  pub record_of_lem : Reads f file → (i : ℕ) → i < (header_at f file).nscns → get_or (summary_as f file).sections i blank_section ≡ record_of (judged_at file (header_at f file) i)
   unfolding summary_as summary_with
-  record_of r i b = section-record file (header_at f file) (header_at f file).nscns i (header-complete f file r.header).few b
+  record_of_lem r i b = section-record file (header_at f file) (header_at f file).nscns i (header-complete f file r.header).few b
 
 judged-is : (f : Format) (file ys : List ℕ) (i : ℕ) → judged_at ys (header_at f file) i ≡ judge_section f (length ys) (section_header_at f (section_start f (header_at f file).opthdr i) ys) (record { 0 = i + 1 })
 unfolding judged_at header_at
@@ -218,11 +218,11 @@ module _ (new : Followed → ℕ → ℕ) (x : Images) (file : List ℕ) (f : Fo
         ∙ ap (λ (t : SectionHeader). moved_header new (flag_follows (flag_at y.sections i)) t) (sym (section-same f base read-before))
 
     flag_is : flag_at y.sections i ≡ flags_of s.kind
-    flag_is = ap (λ (t : Section). flags_of t.kind) (record_of f file g.reads i b)
+    flag_is = ap (λ (t : Section). flags_of t.kind) (record_of_lem f file g.reads i b)
 
     -- the one section of its kind is the part of the module
     part-is : (flag : ℕ) → flags_of s.kind ≡ flag → (tally_of y flag).count ≡ 1 → ((part_at y.sections (tally_of y flag).last).address.0 ≡ s.vaddr.0) × ((part_at y.sections (tally_of y flag).last).size ≡ s.size)
-    part-is flag e one = part-at y.sections (tally_of y flag).last i s (tally-one y.sections flag y.count i one (rw (sections-count f file) b) (flag_is ∙ e)) (record_of f file g.reads i b)
+    part-is flag e one = part-at y.sections (tally_of y flag).last i s (tally-one y.sections flag y.count i one (rw (sections-count f file) b) (flag_is ∙ e)) (record_of_lem f file g.reads i b)
 
     fits : (k : SectionKind) → s.kind ≡ k → is_placed_kind k ≡ true → new (flag_follows (flags_of k)) s.vaddr.0 + s.size ≤ address_limit f
     unfolding flag_follows
@@ -264,7 +264,7 @@ module _ (new : Followed → ℕ → ℕ) (x : Images) (file : List ℕ) (f : Fo
   section-moved i b =
       section-record W h h.nscns i (header-complete f file g.reads.header).few b
       ∙ ap record_of (judged-moved i b)
-      ∙ ap (moved_section new) (sym (record_of f file g.reads i b))
+      ∙ ap (moved_section new) (sym (record_of_lem f file g.reads i b))
 
   check-kept : header_check f W ≡ header_check f file
   unfolding header_check

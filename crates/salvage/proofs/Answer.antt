@@ -1,5 +1,5 @@
 -- The answers of salvaging, by what the code finds. Assumes nothing.
-use Prim.Native.Nat.{ℕ, ◌+◌, ◌*◌, ◌≤◌, ◌<◌}
+use Prim.Native.Nat.{ℕ, ◌*◌, ◌≤◌, ◌<◌}
 use mathlib.Core.Path.{◌≡◌, refl, sym, ◌∙◌, ap}
 use mathlib.Core.Bool.{Bool, true, false, not}
 use mathlib.Core.List.{List}
@@ -17,19 +17,18 @@ use Rattle.refusal.specs.declared.Verdict.TheVariants as verdict
 use Rattle.refusal.specs.Order.{◌or_else◌, refuse_if, by_verdict, if_accepted}
 use Rattle.refusal.proofs.Order.{accepted-first, accepted-rest, accepted-equal, accepted-most}
 use Rattle.header.specs.declared.Opened.{Opened}
-use Rattle.header.specs.declared.Summary.{Summary}
 use Rattle.header.specs.Open.{open_of}
 use Rattle.symbol.specs.declared.Tables.{Tables}
-use Rattle.symbol.specs.Entry.{OpenTables, tables_at}
-use Rattle.symbol.proofs.Opened.{TablesInside, tables-inside, summary-inside}
+use Rattle.symbol.specs.Entry.{OpenTables}
+use Rattle.symbol.proofs.Opened.{tables-inside, summary-inside}
 use Rattle.shared_symbols.specs.Shared.{is_shared}
 use Rattle.shared_symbols.proofs.Sections.{few-symbols}
-use Rattle.mend.specs.Mend.{Change, put_all}
+use Rattle.mend.specs.Mend.{put_all}
 use Rattle.mend.specs.Report.{report_bytes, put_bytes}
 use Rattle.mend.proofs.Changes.{length-report}
 use Rattle.salvage.specs.declared.CountAnswer.{CountAnswer}
 use Rattle.salvage.specs.declared.CountAnswer.TheVariants.{Counted, Refused}
-use Rattle.salvage.specs.Salvage.{changes_in, changes, salvaged, salvage_count}
+use Rattle.salvage.specs.Salvage.{changes_in, salvaged}
 use Rattle.salvage.specs.Answer.{salvageable, room_check, room_in, salvage_check, count_answer, salvage_answer, copy_after, report_after, report_of_count}
 
 -- ---- ROOM 0 and LIMIT item 5

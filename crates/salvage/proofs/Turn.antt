@@ -1,7 +1,7 @@
 -- The loops over the walk by mended entries: what is left at an index, and one turn. Assumes nothing.
 use mathlib.Core.Path.{◌≡◌, refl, sym, ◌∙◌, ap}
 use mathlib.Core.List.{List, [], ◌∷◌, ◌++◌}
-use Prim.Native.Nat.{ℕ, zero, suc, ◌+◌, ◌-◌, ◌*◌, ◌≤◌, ◌<◌}
+use Prim.Native.Nat.{ℕ, zero, suc, ◌+◌, ◌-◌, ◌≤◌, ◌<◌}
 use native.Mathlib.Nat.{sub-zero}
 use native.Mathlib.Decide.{dec_le}
 use native.Mathlib.Omega.{arith}
@@ -12,7 +12,7 @@ use Rattle.symbol.specs.declared.Tables.{Tables}
 use Rattle.symbol.specs.declared.SymbolEntry.{SymbolEntry}
 use Rattle.symbol.specs.Entry.{OpenTables, entry_of}
 use Rattle.mend.specs.declared.EntryRefusals.{EntryRefusals}
-use Rattle.mend.specs.Mend.{Change, aux_left, changes_at, put_all, mended_entry}
+use Rattle.mend.specs.Mend.{Change, changes_at, put_all, mended_entry}
 use Rattle.mend.specs.Report.{report_bytes, put_bytes}
 use Rattle.mend.specs.Entry.{refusals_of, mend_by, mended_aux, rows_by, refused_in}
 use Rattle.mend.proofs.Put.{length-mend}

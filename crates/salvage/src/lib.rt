@@ -1,5 +1,6 @@
 // A copy of a file in which the walk over the symbol table no longer stops, and a report of what was changed.
 #![tactic(auto)]
+
 ghost use Rattle.std.specs.Prelude.{◌≡◌, ◌*◌, ◌≤◌};
 ghost use Rattle.salvage.specs.Answer.{room_check, report_of_count};
 

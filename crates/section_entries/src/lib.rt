@@ -1,5 +1,6 @@
 // A section's own relocation entries judged in order: LREL, OVERLAP.
 #![tactic(auto)]
+
 ghost use Rattle.std.specs.Prelude.{◌≡◌};
 ghost use Rattle.object_entry.specs.Entry.{own_at};
 ghost use Rattle.section_entries.specs.Entries.{entries_check, FirstRefused, verdict_at, EntriesReady};

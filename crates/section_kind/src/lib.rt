@@ -1,5 +1,6 @@
 // The kinds of section that a header's flags may name: the list of the allowed ones, and what flags are decided to be by it.
 #![tactic(auto)]
+
 ghost use Rattle.std.specs.Prelude.{◌≡◌, ◌||◌, ◌+◌, ◌≤◌, eqb, length};
 ghost use Rattle.std.proofs.lemmas.List.Edits.{sets};
 ghost use Rattle.section_kind.specs.Kind.{flags_of, listed_kind, kind_of, has_raw_kind, is_placed_kind, kind_word};

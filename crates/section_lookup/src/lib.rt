@@ -1,5 +1,6 @@
 // A section and its name looked up by number: opening's refusals, then INDEX.
 #![tactic(auto)]
+
 ghost use Rattle.std.specs.Prelude.{◌≡◌, ◌<◌};
 ghost use Rattle.refusal.specs.Order.{◌or_else◌};
 ghost use Rattle.offset.specs.Report.{report_of_range};

@@ -1,6 +1,7 @@
 // Overlapping fields of a section's own relocation table: none where the fields ascend; otherwise found in one pass over the entries for each window of the section
 // that has a field.
 #![tactic(auto)]
+
 ghost use Rattle.std.specs.Prelude.{◌≡◌, true, ℕ, ◌+◌, ◌≤◌, ◌<◌, length};
 ghost use Rattle.field_kind.specs.declared.ObjectField.{ObjectField as AField};
 ghost use Rattle.field_kind.specs.Field.{bytes_in};

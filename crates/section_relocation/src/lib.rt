@@ -1,5 +1,6 @@
 // Entries of a section's own relocation table: read, and the field that each changes.
 #![tactic(auto)]
+
 ghost use Rattle.std.specs.Prelude.{◌≡◌, true, ◌+◌, ◌≤◌, ◌<◌, length};
 ghost use Rattle.table_kind.specs.declared.TableKind.TheVariants.{Relocations};
 ghost use Rattle.table_kind.specs.Kind.{entry_length};

@@ -15,7 +15,6 @@ use Rattle.refusal.specs.declared.Refusal.TheVariants.{Bounds}
 use Rattle.refusal.specs.declared.Verdict.TheVariants.{Accepted}
 use Rattle.offset.specs.Named.{Named}
 use Rattle.offset.proofs.Named.{named_by}
-use Rattle.section.specs.declared.Section.{Section}
 use Rattle.file_tables.specs.Tables.{blank_section}
 use Rattle.header.specs.declared.Summary.{Summary}
 use Rattle.header.specs.Open.{open_of}

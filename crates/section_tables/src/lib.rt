@@ -1,5 +1,6 @@
 // The tables that a section has of its own, relocations and line numbers: where one lies, and how many entries it has.
 #![tactic(auto)]
+
 ghost use Rattle.std.specs.Prelude.{◌≡◌, ◌*◌, ◌≤◌, ◌<◌};
 ghost use Rattle.word.specs.Test.{past};
 ghost use Rattle.format.specs.Limit.{section_limit};

@@ -1,11 +1,10 @@
 -- The ranges that are compared, from the numbers that the code finds. Assumes nothing.
 use mathlib.Core.Path.{◌≡◌, refl, sym, ◌∙◌}
-use mathlib.Core.Bool.{Bool, true, false, ◌||◌}
+use mathlib.Core.Bool.{Bool, true, false}
 use mathlib.Core.List.{List, [], ◌∷◌}
 use Prim.Native.Nat.{ℕ, ◌*◌}
 use lib.ListN.{length}
 use borrow.Author.Tests.{eq-eqb, ne_eqb}
-use lib.Dec.{eqb}
 use Rattle.format.specs.declared.FileRange.{FileRange}
 use Rattle.format.specs.declared.LoaderLayout.{LoaderLayout}
 use Rattle.format.specs.declared.RelocationLayout.{RelocationLayout}

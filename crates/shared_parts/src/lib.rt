@@ -1,5 +1,6 @@
 // SHARED: whether parts of a module's file that writing it back reads or sets share a byte.
 #![tactic(auto)]
+
 ghost use Rattle.std.specs.Prelude.{◌≡◌, length};
 ghost use Rattle.format.specs.Range.{range};
 ghost use Rattle.header.specs.Inside.{Inside};

@@ -1,5 +1,6 @@
 // Ranges of a file that share a byte.
 #![tactic(auto)]
+
 ghost use Rattle.std.specs.Prelude.{◌≡◌, ◌≤◌, take, drop};
 ghost use Rattle.shared_range.specs.Shared.{shares, shares_one, shares_two};
 

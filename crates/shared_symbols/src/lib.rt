@@ -1,5 +1,6 @@
 // Whether the symbol table shares a byte with the header area or a debug section.
 #![tactic(auto)]
+
 ghost use Rattle.std.specs.Prelude.{◌≡◌, cond, ◌||◌, ◌≤◌};
 ghost use Rattle.format.specs.Limit.{file_limit, section_limit};
 ghost use Rattle.debug_section.specs.Debug.{is_debug, raw_of, debug_ranges};

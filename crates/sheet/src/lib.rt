@@ -1,5 +1,6 @@
 // The plan sheet: a plan's addresses as bytes, read and written.
 #![tactic(auto)]
+
 ghost use Rattle.std.specs.Prelude.{◌≡◌, ◌+◌, ◌*◌, ◌≤◌, length};
 ghost use Rattle.word.specs.Number.{field_at};
 ghost use Rattle.sheet.specs.Sheet.{count_width, list_limit, form_of, head_length, sheet_length, head_of, write_check, sheet_head, report_of_sheet};

@@ -1,5 +1,6 @@
 // Symbol table entries, each read and judged with its name.
 #![tactic(auto)]
+
 ghost use Rattle.std.specs.Prelude.{◌≡◌, ◌+◌, ◌-◌, ◌≤◌, ◌<◌, length};
 ghost use Rattle.word.specs.Zero.{zero_end};
 ghost use Rattle.format.specs.Layout.{symbol_length};

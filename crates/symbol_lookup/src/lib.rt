@@ -1,5 +1,6 @@
 // A symbol and its name, looked up by the symbol's index.
 #![tactic(auto)]
+
 ghost use Rattle.std.specs.Prelude.{◌≡◌};
 ghost use Rattle.offset.specs.Report.{report_of_range};
 ghost use Rattle.refusal.specs.Part.{range_bytes};

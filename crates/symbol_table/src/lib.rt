@@ -1,5 +1,6 @@
 // The symbol table listed whole: the file is opened once, and each symbol that the walk visits gets a row of numbers.
 #![tactic(auto)]
+
 ghost use Rattle.std.specs.Prelude.{◌≡◌, length};
 ghost use Rattle.refusal.specs.Order.{by_verdict, if_accepted};
 ghost use Rattle.symbol.specs.Entry.{OpenTables};

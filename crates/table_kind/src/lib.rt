@@ -1,5 +1,6 @@
 // The kinds of table that a section has of its own, and how long their entries are.
 #![tactic(auto)]
+
 ghost use Rattle.std.specs.Prelude.{◌≡◌};
 ghost use Rattle.table_kind.specs.Kind.{entry_length};
 

@@ -1,5 +1,6 @@
 // Text is written into a lent buffer: each function stores its bytes at a place and hands back the place after them.
 #![tactic(auto)]
+
 ghost use Rattle.std.specs.Prelude.{◌≡◌, [], ◌∷◌, ◌+◌, ◌≤◌, ◌<◌, length};
 ghost use Rattle.std.proofs.lemmas.List.Edits.{sets};
 ghost use Rattle.text.specs.Text.{digit_of, digits, places, decimal, hex};

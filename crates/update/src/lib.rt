@@ -1,5 +1,6 @@
 // Fields of a byte slice written, added to and subtracted from; what passes a field's width is dropped.
 #![tactic(auto)]
+
 ghost use Rattle.std.specs.Prelude.{◌≡◌, ◌+◌, ◌≤◌, length, pos, neg_ℤ};
 ghost use Rattle.word.specs.Number.{field_at};
 ghost use Rattle.update.specs.Update.{put_field, add_field};

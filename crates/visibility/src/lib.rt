@@ -1,5 +1,6 @@
 // The visibility in a symbol's type, which auxiliary version 2 of XCOFF32 brings.
 #![tactic(auto)]
+
 ghost use Rattle.std.specs.Prelude.{◌≡◌};
 ghost use Rattle.header.specs.Inside.{Inside};
 ghost use Rattle.visibility.specs.Visibility.{has_version2, is_csect_class, is_claimed, visibility_bits, is_unknown, visibility_of};

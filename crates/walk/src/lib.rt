@@ -1,5 +1,6 @@
 // The walk over the symbol table.
 #![tactic(auto)]
+
 ghost use Rattle.std.specs.Prelude.{◌≡◌};
 ghost use Rattle.symbol.specs.Entry.{OpenTables};
 ghost use Rattle.walk.specs.Walk.{walk_in, walk_of, report_of_walk, walk_report};

@@ -1,5 +1,6 @@
 // Numbers in bytes: big-endian reads, the first zero of a slice, and sums compared in exact arithmetic.
 #![tactic(auto)]
+
 ghost use Rattle.std.specs.Prelude.{◌≡◌, ◌||◌, [], ◌∷◌, ◌+◌, ◌*◌, ◌/◌, ◌%◌, ◌≤◌, ◌<◌, ◌^◌, ltb, eqb, length, get_or, drop};
 ghost use Rattle.word.specs.Number.{field, field_at, bytes_in, field_in};
 ghost use Rattle.word.specs.Zero.{first_zero, zeros_in, zero_end};

@@ -8,15 +8,15 @@ use native.Mathlib.Omega.{arith}
 use lib.ListN.{length, get_or, take, drop, replicate, length-drop, length-replicate, get_or-replicate, take-append-drop}
 use lib.Seq.{ext_get_or, get_or-drop, get_or-append-add}
 use Rattle.word.proofs.Number.{length-field}
-use Rattle.relocation.specs.Relocation.{bytes_wide, place_at}
+use Rattle.relocation.specs.Relocation.{place_at}
 use Rattle.loadable.specs.declared.Loadable.{Loadable}
 use Rattle.loadable.specs.Valid.{Valid}
 use Rattle.history.specs.declared.Relocation.{Relocation}
-use Rattle.history.specs.Images.{Images, apply_all, All, InField, image_of, length_of}
+use Rattle.history.specs.Images.{apply_all, All, InField}
 use Rattle.history.specs.Plan.{Relocatable, Plan, displacements, built_images}
 use Rattle.history.proofs.Apply.{apply_all-lengths, length-in}
 use Rattle.history.proofs.Bytes.{apply_all-outside}
-use Rattle.plan.specs.Relocatable.{relocation_at, relocations_from, raw_text, raw_data, relocatable_of}
+use Rattle.plan.specs.Relocatable.{relocation_at, relocations_from, raw_data, relocatable_of}
 use Rattle.plan.proofs.Raw.{length-raw-text, length-raw-data}
 
 -- ---- the data image behind the data section stays 0

@@ -1,24 +1,22 @@
 -- An accepted module, check by check, both ways; and where its tables lie. Assumes nothing.
 use mathlib.Core.Path.{◌≡◌, refl, sym, ◌∙◌, ap, subst}
-use mathlib.Core.Bool.{Bool, true, false, not, cond, ◌&&◌, ◌||◌}
-use mathlib.Core.List.{List, [], ◌∷◌}
-use Prim.Native.Nat.{ℕ, zero, suc, ◌+◌, ◌-◌, ◌*◌, ◌≤◌, ◌<◌}
+use mathlib.Core.Bool.{false}
+use mathlib.Core.List.{List}
+use Prim.Native.Nat.{ℕ, ◌+◌, ◌*◌, ◌≤◌}
 use native.Mathlib.Decide.{ℕ_discrete}
 use native.Mathlib.Omega.{arith}
-use lib.ListN.{length, get_or}
+use lib.ListN.{length}
 use lib.Dec.{ltb}
 use borrow.Author.Tests.{ltb-false}
 use Rattle.format.specs.declared.Format.{Format}
 use Rattle.format.specs.declared.FileRange.{FileRange}
 use Rattle.format.specs.Layout.{header_layout, aux_layout, loader_layout, loader_symbol_length, relocation_layout}
 use Rattle.format.specs.Range.{range}
-use Rattle.refusal.specs.declared.Refusal.{Refusal}
 use Rattle.refusal.specs.declared.Verdict.{Verdict}
 use Rattle.refusal.specs.declared.Verdict.TheVariants.{Accepted, Refused}
-use Rattle.refusal.specs.Order.{◌or_else◌, refuse_if, first_of, by_verdict}
-use Rattle.refusal.proofs.Order.{accepted-first, accepted-rest, accepted-test}
+use Rattle.refusal.specs.Order.{refuse_if, by_verdict}
+use Rattle.refusal.proofs.Order.{accepted-first, accepted-test}
 use Rattle.header.specs.declared.Summary.{Summary}
-use Rattle.header.specs.declared.Opened.{Opened}
 use Rattle.header.specs.Open.{open_of}
 use Rattle.header.specs.Inside.{Inside}
 use Rattle.header.proofs.Accepted.{opened_inside}
@@ -29,18 +27,15 @@ use Rattle.module.specs.declared.Module.{Module}
 use Rattle.module.specs.declared.ModuleAnswer.{ModuleAnswer}
 use Rattle.module.specs.declared.ModuleAnswer.TheVariants as module-answer
 use Rattle.module.specs.Module.{aux_of, module_check, module_with, module_in, module_at}
-use Rattle.module.specs.Inside.{ModuleInside}
 use Rattle.module.proofs.Accepted.{module-inside}
 use Rattle.loader_header.specs.declared.LoaderHeader.{LoaderHeader}
 use Rattle.loader_header.specs.declared.LoaderTables.{LoaderTables}
 use Rattle.loader_header.specs.Header.{loader_header_at, tables_of, table_past, place_of, header_check, PlacesGood}
 use Rattle.loader_header.proofs.Places.{table-in, place-full}
-use Rattle.loader.specs.declared.LoaderAnswer.{LoaderAnswer}
 use Rattle.loader.specs.declared.LoaderAnswer.TheVariants as loader-answer
-use Rattle.loader.specs.Loader.{tables_in, symbols_check, loader_check, loader_in}
+use Rattle.loader.specs.Loader.{tables_in, loader_check, loader_in}
 use Rattle.loader.proofs.Accepted.{long-enough, loader-known}
 use Rattle.loadable.specs.declared.Loadable.{Loadable}
-use Rattle.loadable.specs.declared.LoadableAnswer.{LoadableAnswer}
 use Rattle.loadable.specs.declared.LoadableAnswer.TheVariants as answer
 use Rattle.loader_entries.specs.Entries.{entries_check}
 use Rattle.loadable.specs.Loadable.{loadable_with, loadable_in, loadable_at}

@@ -11,7 +11,6 @@ use Rattle.parts.specs.Sections.{flag_at}
 use Rattle.loader_symbol.specs.Symbol as symbol
 use Rattle.relocation.specs.Relocation as relocation
 use Rattle.loadable.specs.declared.Loadable.{Loadable}
-use Rattle.history.specs.declared.Followed.{Followed}
 use Rattle.plan.specs.Relocatable.{followed_at}
 use Rattle.shared_range.specs.Shared.{Holds}
 use Rattle.written.specs.Written.{moves, flag_follows, anchor_follows}

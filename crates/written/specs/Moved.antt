@@ -2,7 +2,6 @@
 use Rattle.std.specs.Prelude.{◌≡◌, ℕ, ◌<◌}
 use Rattle.section.specs.declared.SectionHeader.{SectionHeader}
 use Rattle.section.specs.declared.Section.{Section}
-use Rattle.format.specs.declared.SectionNumber.{SectionNumber}
 use Rattle.section_kind.specs.Kind.{flags_of}
 use Rattle.auxiliary.specs.declared.AuxHeader.{AuxHeader}
 use Rattle.parts.specs.declared.Part.{Part}

@@ -224,8 +224,8 @@ pub extern "C" fn xcoff_build(
     text: &mut [u8],
     data: &mut [u8],
 ) -> CallReport
-    ensures answer { result ≡ report_of_call file.now (answer_of (relocatable_at file.now) (length text.entry.now) (length «data».old) (build (record { text = at; dat = dataat; list = list.now }))) }
-    ensures images { images text.exit.now «data».new ≡ effect (relocatable_at file.now) (build (record { text = at; dat = dataat; list = list.now })) (images text.entry.now «data».old) }
+    ensures answer { result ≡ report_of_call file.now (answer_of (relocatable_at file.now) (length text.old) (length «data».old) (build (record { text = at; dat = dataat; list = list.now }))) }
+    ensures images { images text.new «data».new ≡ effect (relocatable_at file.now) (build (record { text = at; dat = dataat; list = list.now })) (images text.old «data».old) }
 {
     let addresses = Addresses {
         text: VirtualAddress(at),
@@ -250,8 +250,8 @@ pub extern "C" fn xcoff_move(
     text: &mut [u8],
     data: &mut [u8],
 ) -> CallReport
-    ensures answer { result ≡ report_of_call file.now (answer_of (relocatable_at file.now) (length text.entry.now) (length «data».old) (move (record { text = at; dat = dataat; list = list.now }) (record { text = toat; dat = todataat; list = tolist.now }))) }
-    ensures images { images text.exit.now «data».new ≡ effect (relocatable_at file.now) (move (record { text = at; dat = dataat; list = list.now }) (record { text = toat; dat = todataat; list = tolist.now })) (images text.entry.now «data».old) }
+    ensures answer { result ≡ report_of_call file.now (answer_of (relocatable_at file.now) (length text.old) (length «data».old) (move (record { text = at; dat = dataat; list = list.now }) (record { text = toat; dat = todataat; list = tolist.now }))) }
+    ensures images { images text.new «data».new ≡ effect (relocatable_at file.now) (move (record { text = at; dat = dataat; list = list.now }) (record { text = toat; dat = todataat; list = tolist.now })) (images text.old «data».old) }
 {
     let from = Addresses {
         text: VirtualAddress(at),
@@ -309,8 +309,8 @@ pub extern "C" fn xcoff_write_records(
     data: &[u8],
     records: &mut [u8],
 ) -> Head
-    ensures answer { result ≡ report_head file.now (record_write_check (relocatable_at file.now) (record { text = at; dat = dataat; list = list.now }) (length text.entry.now) (length «data».now) (length records.old)) }
-    ensures records { records.new ≡ records_written (relocatable_at file.now) (record { text = at; dat = dataat; list = list.now }) text.entry.now «data».now records.old }
+    ensures answer { result ≡ report_head file.now (record_write_check (relocatable_at file.now) (record { text = at; dat = dataat; list = list.now }) (length text.now) (length «data».now) (length records.old)) }
+    ensures records { records.new ≡ records_written (relocatable_at file.now) (record { text = at; dat = dataat; list = list.now }) text.now «data».now records.old }
 {
     let addresses = Addresses {
         text: VirtualAddress(at),
@@ -333,9 +333,9 @@ pub extern "C" fn xcoff_read_records(
     text: &mut [u8],
     data: &mut [u8],
 ) -> Head
-    ensures answer { result ≡ report_head file.now (record_read_check (relocatable_at file.now) (record { text = at; dat = dataat; list = list.now }) (length text.entry.now) (length «data».old) records.now) }
-    ensures text { text.exit.now ≡ text_after (relocatable_at file.now) (record { text = at; dat = dataat; list = list.now }) records.now text.entry.now «data».old }
-    ensures data { «data».new ≡ data_after (relocatable_at file.now) (record { text = at; dat = dataat; list = list.now }) records.now text.entry.now «data».old }
+    ensures answer { result ≡ report_head file.now (record_read_check (relocatable_at file.now) (record { text = at; dat = dataat; list = list.now }) (length text.old) (length «data».old) records.now) }
+    ensures text { text.new ≡ text_after (relocatable_at file.now) (record { text = at; dat = dataat; list = list.now }) records.now text.old «data».old }
+    ensures data { «data».new ≡ data_after (relocatable_at file.now) (record { text = at; dat = dataat; list = list.now }) records.now text.old «data».old }
 {
     let addresses = Addresses {
         text: VirtualAddress(at),

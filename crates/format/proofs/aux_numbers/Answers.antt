@@ -1,0 +1,4 @@
+use Rattle.format.proofs.aux_numbers.Goals as goal
+
+pub returns : goal.returns
+returns c = cc

@@ -1,0 +1,14 @@
+use mathlib.Core.Path.{refl}
+use Rattle.word.proofs.Test.{found}
+use Rattle.offset.proofs.Found.{known_small}
+use Rattle.offset.proofs.Inside.{known-length}
+use Rattle.offset.proofs.offset_of.Goals as goal
+
+pub offset_in-requires : goal.offset_in-requires
+offset_in-requires c = let a = c.args in let e = found c.find_starts-a.ensures c.in-Known.is in (known_small a.file.now e, known-length a.file.now e)
+
+pub returns-in-Unknown : goal.returns-in-Unknown
+returns-in-Unknown c = rw (← c.find_starts-a.ensures, c.in-Unknown.is) refl
+
+pub returns-in-Known : goal.returns-in-Known
+returns-in-Known c = rw (← c.find_starts-a.ensures, c.in-Known.is) c.offset_in.ensures

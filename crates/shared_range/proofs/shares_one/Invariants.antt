@@ -1,0 +1,11 @@
+use Prim.Native.Nat.{◌-◌}
+use mathlib.Core.Path.{◌≡◌}
+use lib.ListN.{take, drop}
+use Rattle.shared_range.specs.Shared.{shares_one}
+use Rattle.shared_range.proofs.shares_one.Given as goal
+
+abbrev pub invariant-loop-i : goal.invariant-loop-i
+invariant-loop-i l = shares_one l.a (drop l.i (take l.n l.rs)) ≡ shares_one l.a (drop l.from (take l.n l.rs))
+
+abbrev pub decreases-loop-i : goal.decreases-loop-i
+decreases-loop-i l = l.n - l.i

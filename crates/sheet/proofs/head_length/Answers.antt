@@ -1,0 +1,7 @@
+use Rattle.sheet.proofs.head_length.Goals as goal
+
+pub returns-in-Old : goal.returns-in-Old
+returns-in-Old c = rw c.in-Old.is
+
+pub returns-in-New : goal.returns-in-New
+returns-in-New c = rw c.in-New.is
