@@ -2,7 +2,7 @@
 use mathlib.Core.Path.{◌≡◌, refl, sym, ◌∙◌, ap, subst}
 use mathlib.Core.Bool.{Bool, true, false, cond, ◌||◌}
 use mathlib.Core.List.{List, []}
-use Prim.Native.Nat.{ℕ, ◌+◌, ◌*◌, ◌%◌, ◌^◌, ◌≤◌, ◌<◌}
+use Prim.Native.Nat.{ℕ, ◌+◌, ◌*◌, ◌%◌, ◌≤◌, ◌<◌}
 use native.Mathlib.Omega.{arith}
 use lib.ListN.{length, get_or}
 use lib.Dec.{eqb}
@@ -33,9 +33,8 @@ use Rattle.relocation.specs.declared.RelocationEntry.{RelocationEntry}
 use Rattle.relocation.specs.Relocation.{entry_in}
 use Rattle.history.specs.declared.Followed.{Followed}
 use Rattle.history.specs.declared.Followed.TheVariants as followed
-use Rattle.history.specs.Plan.{Relocatable, Plan, Anchored, displacement_of}
+use Rattle.history.specs.Plan.{Anchored, displacement_of}
 use Rattle.history.specs.Plan.Anchored.{none, in_text, in_data}
-use Rattle.apply.specs.Shift.{Displaced}
 use Rattle.displacement.proofs.Anchors.{sum-exact}
 use Rattle.plan.specs.Relocatable.{followed_at, anchored}
 use Rattle.plan.proofs.Symbols.{OwnPlace, own-place-at}

@@ -1,5 +1,6 @@
 // The addresses that a file records put into a copy of it anew, as a plan has them.
 #![tactic(auto)]
+
 ghost use Rattle.std.specs.Prelude.{◌≡◌, ◌+◌, ◌≤◌, ◌<◌, length, get_or};
 ghost use Rattle.format.specs.Layout.{header_layout, section_layout, aux_layout};
 ghost use Rattle.format.proofs.Layouts.{FieldInside};

@@ -29,9 +29,8 @@ use Rattle.format.specs.declared.SectionNumber.{SectionNumber}
 use Rattle.parts.specs.declared.Part.{Part}
 use Rattle.parts.specs.declared.Parts.{Parts}
 use Rattle.relocation.specs.declared.RelocationEntry.{RelocationEntry}
-use Rattle.book.specs.Entries as entries
 use Rattle.history.specs.Images.{images, add_at, apply_entry, apply_all}
-use Rattle.history.specs.Plan.{Relocatable, Plan, followed_by, displacement_of, displacements, built_images}
+use Rattle.history.specs.Plan.{Relocatable, followed_by, displacement_of, displacements, built_images}
 use Rattle.history.specs.Plan.Anchored.{none}
 use Rattle.plan.specs.Relocatable.{relocation_of}
 

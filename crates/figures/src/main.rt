@@ -1,8 +1,9 @@
 // Document 01's bench figures that are not computed from definitions: made files through the real operations, a line for each.
 #![tactic(auto)]
-use libc::STDOUT_FILENO;
+
 use loadable::LoadableAnswer;
 use refusal::{Refusal, Verdict};
+use std::io;
 
 fn put2(s: &mut [u8], at: usize, v: u16) {
     if s.len() < 2 {
@@ -74,41 +75,37 @@ fn put_entry(s: &mut [u8], start: u16, i: u32, address: u32) {
     put2(s, at + 10, 1);
 }
 
-fn say_refused(x: Refusal) {
-    io::write_all(STDOUT_FILENO, b"refused ");
-    io::print_decimal(STDOUT_FILENO, refusal::number(x));
-    io::write_all(STDOUT_FILENO, b" ");
-    io::print_decimal(STDOUT_FILENO, refusal::item(x));
-    io::write_all(STDOUT_FILENO, b"\n");
+fn say_refused(rt: &impl Print, x: Refusal) -> io::Result<()> {
+    let number = refusal::number(x);
+    let item = refusal::item(x);
+    println!(rt; "refused {number} {item}")
 }
 
-fn judge(s: &[u8]) {
+fn judge(rt: &impl Print, s: &[u8]) -> io::Result<()> {
     let a = loadable::module_of(s);
     match a {
-        LoadableAnswer::Refused(x) => say_refused(x),
-        LoadableAnswer::Found(_) => {
-            io::write_all(STDOUT_FILENO, b"accepted\n");
-        }
+        LoadableAnswer::Refused(x) => say_refused(rt, x),
+        LoadableAnswer::Found(_) => println!(rt; "accepted"),
     }
 }
 
 // A section at 10000000 of 100 hex bytes with one field.
-fn try_field(address: u32) {
-    let mut s = io::large_buffer();
+fn try_field(rt: &impl Print, address: u32) -> io::Result<()> {
+    let mut s = [0u8; 65536];
     put_module(&mut s, 0x1000_0000, 0x100, 508, 44);
     put_loader(&mut s, 508, 1);
     put_entry(&mut s, 508, 0, address);
-    judge(&s);
+    judge(rt, &s)
 }
 
 // Two fields of a section at 0.
-fn try_fields(first: u32, second: u32) {
-    let mut s = io::large_buffer();
+fn try_fields(rt: &impl Print, first: u32, second: u32) -> io::Result<()> {
+    let mut s = [0u8; 65536];
     put_module(&mut s, 0, 0x200, 764, 56);
     put_loader(&mut s, 764, 2);
     put_entry(&mut s, 764, 0, first);
     put_entry(&mut s, 764, 1, second);
-    judge(&s);
+    judge(rt, &s)
 }
 
 // `n` entries on the text section's first fields, the same field twice where it has fewer.
@@ -126,12 +123,12 @@ fn space() -> [u8; 1200552] {
 }
 
 // A module with `n` entries, whose loader section has `length` bytes.
-fn try_entries(n: u32, length: u32) {
+fn try_entries(rt: &impl Print, n: u32, length: u32) -> io::Result<()> {
     let mut s = space();
     put_module(&mut s, 0, 0x100, 508, length);
     put_loader(&mut s, 508, n);
     put_entries(&mut s, 508, n);
-    judge(&s);
+    judge(rt, &s)
 }
 
 // The flags of `n` sections of padding.
@@ -144,44 +141,36 @@ fn put_flags(s: &mut [u8], n: u16) {
 }
 
 // A file of `n` sections.
-fn try_sections(n: u16) {
-    let mut s = io::large_buffer();
+fn try_sections(rt: &impl Print, n: u16) -> io::Result<()> {
+    let mut s = [0u8; 65536];
     put2(&mut s, 0, 0x01DF);
     put2(&mut s, 2, n);
     put_flags(&mut s, n);
     let o = header::open(&s);
     let v = o.verdict;
     match v {
-        Verdict::Refused(x) => say_refused(x),
-        Verdict::Accepted => {
-            io::write_all(STDOUT_FILENO, b"accepted\n");
-        }
+        Verdict::Refused(x) => say_refused(rt, x),
+        Verdict::Accepted => println!(rt; "accepted"),
     }
 }
 
-fn main() {
-    io::write_all(
-        STDOUT_FILENO,
-        b"section 10000000 size 100, field at 100000FC: ",
-    );
-    try_field(0x1000_00FC);
-    io::write_all(
-        STDOUT_FILENO,
-        b"section 10000000 size 100, field at 100000FD: ",
-    );
-    try_field(0x1000_00FD);
-    io::write_all(STDOUT_FILENO, b"fields at 100 and 104: ");
-    try_fields(0x100, 0x104);
-    io::write_all(STDOUT_FILENO, b"fields at 100 and 100: ");
-    try_fields(0x100, 0x100);
-    io::write_all(STDOUT_FILENO, b"fields at 100 and 102: ");
-    try_fields(0x100, 0x102);
-    io::write_all(STDOUT_FILENO, b"32 sections: ");
-    try_sections(32);
-    io::write_all(STDOUT_FILENO, b"33 sections: ");
-    try_sections(33);
-    io::write_all(STDOUT_FILENO, b"100,000 entries: ");
-    try_entries(100000, 1200032);
-    io::write_all(STDOUT_FILENO, b"100,001 entries: ");
-    try_entries(100001, 1200044);
+fn main(rt: HostRuntime) -> io::Result<()> {
+    print!(rt; "section 10000000 size 100, field at 100000FC: ")?;
+    try_field(&rt, 0x1000_00FC)?;
+    print!(rt; "section 10000000 size 100, field at 100000FD: ")?;
+    try_field(&rt, 0x1000_00FD)?;
+    print!(rt; "fields at 100 and 104: ")?;
+    try_fields(&rt, 0x100, 0x104)?;
+    print!(rt; "fields at 100 and 100: ")?;
+    try_fields(&rt, 0x100, 0x100)?;
+    print!(rt; "fields at 100 and 102: ")?;
+    try_fields(&rt, 0x100, 0x102)?;
+    print!(rt; "32 sections: ")?;
+    try_sections(&rt, 32)?;
+    print!(rt; "33 sections: ")?;
+    try_sections(&rt, 33)?;
+    print!(rt; "100,000 entries: ")?;
+    try_entries(&rt, 100000, 1200032)?;
+    print!(rt; "100,001 entries: ")?;
+    try_entries(&rt, 100001, 1200044)
 }

@@ -1,5 +1,6 @@
 // Import ids listed whole: the module is judged once, its id table is passed once, and each id gets a row of numbers.
 #![tactic(auto)]
+
 ghost use Rattle.std.specs.Prelude.{◌≡◌, ◌+◌, ◌*◌, ◌≤◌, length, drop};
 ghost use Rattle.word.specs.Zero.{first_zero};
 ghost use Rattle.format.specs.Range.{bytes_of};

@@ -1,5 +1,6 @@
 // A module's images, built and moved.
 #![tactic(auto)]
+
 ghost use Rattle.std.specs.Prelude.{◌≡◌, ◌-◌, length};
 ghost use Rattle.history.specs.Images.{images};
 ghost use Rattle.history.specs.Call.{build, move, answer_of, effect};

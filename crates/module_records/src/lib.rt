@@ -1,5 +1,6 @@
 // A module's images for a plan as S-records: how long they are, written and read.
 #![tactic(auto)]
+
 ghost use Rattle.std.specs.Prelude.{◌≡◌, length};
 ghost use Rattle.loadable.specs.Valid.{Valid};
 ghost use Rattle.plan.specs.Relocatable.{relocatable_of, relocatable_at};

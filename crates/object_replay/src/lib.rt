@@ -1,5 +1,6 @@
 // A list of calls of an object file, run: its contract is the book.
 #![tactic(auto)]
+
 ghost use Rattle.std.specs.Prelude.{◌≡◌, length};
 ghost use Rattle.object_history.specs.Call.{Call, build, move, call_check, effect};
 ghost use Rattle.object_history.specs.Book.{book_images, book_after};

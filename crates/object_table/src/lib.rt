@@ -1,5 +1,6 @@
 // The sections of an object file and the entries of one section listed whole: each gets a row of numbers.
 #![tactic(auto)]
+
 ghost use Rattle.std.specs.Prelude.{◌≡◌, true, ◌*◌, ◌≤◌, ◌<◌, length};
 ghost use Rattle.format.specs.Limit.{section_limit};
 ghost use Rattle.refusal.specs.Order.{if_accepted};

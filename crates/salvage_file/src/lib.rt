@@ -1,5 +1,6 @@
 // A file's symbol table salvaged: a copy with every entry mended, and the report.
 #![tactic(auto)]
+
 ghost use Rattle.std.specs.Prelude.{◌≡◌, ◌*◌, ◌≤◌, length};
 ghost use Rattle.refusal.specs.Order.{by_verdict, if_accepted};
 ghost use Rattle.symbol.specs.Entry.{OpenTables};

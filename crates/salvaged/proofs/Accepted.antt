@@ -1,25 +1,23 @@
 -- No check refuses an entry as mended, and where none refuses, nothing is changed. Assumes nothing.
-use mathlib.Core.Path.{◌≡◌, refl, sym, ◌∙◌, ap}
+use mathlib.Core.Path.{◌≡◌, refl, ◌∙◌, ap}
 use mathlib.Core.Bool.{Bool, true, false, not, cond, ◌&&◌}
 use mathlib.Core.List.{List, [], ◌∷◌}
-use Prim.Native.Nat.{ℕ, ◌+◌, ◌-◌, ◌/◌, ◌%◌, ◌≤◌, ◌<◌}
+use Prim.Native.Nat.{ℕ, ◌+◌, ◌%◌, ◌≤◌, ◌<◌}
 use native.Mathlib.Omega.{arith}
-use lib.Dec.{eqb, ltb, leb, lit≤}
+use lib.Dec.{eqb, lit≤}
 use borrow.Author.Tests.{le-ltb, le-leb}
 use Rattle.word.specs.Test.{past}
 use Rattle.word.proofs.Test.{past-no}
-use Rattle.format.specs.declared.FileRange.{FileRange}
 use Rattle.format.specs.declared.NameField.{NameField}
 use Rattle.format.specs.declared.NameField.TheVariants.{Short, Offset}
 use Rattle.format.specs.declared.SymbolIndex.{SymbolIndex}
 use Rattle.format.specs.declared.SymbolLayout.{SymbolLayout}
 use Rattle.format.specs.Range as places
-use Rattle.refusal.specs.declared.RangeAnswer.{RangeAnswer}
 use Rattle.refusal.specs.declared.RangeAnswer.TheVariants as range
-use Rattle.refusal.specs.declared.Refusal.TheVariants.{Aux, Scnum, Name, Visibility}
+use Rattle.refusal.specs.declared.Refusal.TheVariants.{Name}
 use Rattle.refusal.specs.declared.Verdict.{Verdict}
-use Rattle.refusal.specs.declared.Verdict.TheVariants.{Accepted, Refused}
-use Rattle.refusal.specs.Order.{refuse_if, first_refusal}
+use Rattle.refusal.specs.declared.Verdict.TheVariants.{Accepted}
+use Rattle.refusal.specs.Order.{first_refusal}
 use Rattle.refusal.specs.Refusal.{is_refused}
 use Rattle.refusal.proofs.Order.{accepts, accepted-first, accepted-rest, all-accept}
 use Rattle.debug_section.specs.Debug.{has_string, string_range}

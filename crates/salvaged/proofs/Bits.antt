@@ -2,7 +2,7 @@
 use mathlib.Core.Path.{◌≡◌, refl, sym, ◌∙◌, ap, subst}
 use mathlib.Core.Logic.{◌⊎◌, inl, inr}
 use mathlib.Core.List.{List, [], ◌∷◌, ◌++◌}
-use Prim.Native.Nat.{ℕ, zero, suc, ◌+◌, ◌-◌, ◌*◌, ◌/◌, ◌%◌, ◌^◌, ◌≤◌, ◌<◌}
+use Prim.Native.Nat.{ℕ, suc, ◌+◌, ◌-◌, ◌*◌, ◌/◌, ◌%◌, ◌^◌, ◌≤◌, ◌<◌}
 use native.Mathlib.Decide.{ℕ_discrete, dec_le, dec_lt}
 use native.Mathlib.Omega.{arith}
 use lib.ListN.{length, get_or}
@@ -26,7 +26,6 @@ use Rattle.symbol.specs.Entry.{OpenTables, entry_start, entry_at, entry_of}
 use Rattle.symbol.specs.Symbol.{aux_check, scnum_check, name_check, visibility_check}
 use Rattle.symbol.proofs.Opened.{entry_whole}
 use Rattle.frame.proofs.Change.{put_local}
-use Rattle.visibility.specs.Visibility.{visibility_bits}
 use Rattle.mend.specs.Mend.{Mend, Change, whole, aux_left, without_visibility, mends_of, change_of, changes_by, changes_at, change_start, put, put_all}
 use Rattle.mend.proofs.Changes.{put-append}
 use Rattle.salvage.specs.Salvage.{changes_of}

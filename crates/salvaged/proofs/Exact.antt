@@ -1,12 +1,12 @@
 -- Each change sets its field to another number than the file has there. Assumes nothing.
 use mathlib.Core.Path.{◌≡◌, refl, sym, ◌∙◌, ap}
-use mathlib.Core.Bool.{Bool, true, false, not, cond, ◌&&◌}
+use mathlib.Core.Bool.{Bool, true, false, not, cond}
 use mathlib.Core.List.{List, [], ◌∷◌, ◌++◌}
-use Prim.Native.Nat.{ℕ, suc, ◌+◌, ◌-◌, ◌*◌, ◌/◌, ◌%◌, ◌^◌, ◌≤◌, ◌<◌}
+use Prim.Native.Nat.{ℕ, suc, ◌+◌, ◌%◌, ◌≤◌, ◌<◌}
 use native.Mathlib.Nat.{mod-eq_of_lt}
 use native.Mathlib.Omega.{arith}
 use lib.ListN.{length}
-use lib.Dec.{ltb, leb, eqb, lit≤}
+use lib.Dec.{ltb, eqb, lit≤}
 use borrow.Author.Tests.{ltb-true, le-leb}
 use Rattle.word.specs.Number.{field_in}
 use Rattle.word.specs.Test.{past}
@@ -22,7 +22,6 @@ use Rattle.format.specs.Layout.{symbol_layout, symbol_length, zeroes_field}
 use Rattle.format.specs.Name.{name_field}
 use Rattle.format.proofs.Layouts.{symbol-inside}
 use Rattle.refusal.specs.Refusal.{is_refused}
-use Rattle.refusal.specs.declared.Refusal.{Refusal}
 use Rattle.refusal.specs.declared.Verdict.{Verdict}
 use Rattle.refusal.specs.declared.Verdict.TheVariants.{Accepted, Refused}
 use Rattle.refusal.specs.Order.{by_verdict}
@@ -40,7 +39,7 @@ use Rattle.mend.specs.Mend.{Mend, Change, whole, aux_left, without_visibility, m
 use Rattle.mend.proofs.Fields.{field-after}
 use Rattle.mend.proofs.Judged.{aux-refused, scnum-refused, visibility-refused}
 use Rattle.salvage.specs.Salvage.{changes_of}
-use Rattle.salvaged.specs.Claim.{Sets, EachSets}
+use Rattle.salvaged.specs.Claim.{EachSets}
 use Rattle.salvaged.proofs.Places.{Mended, Ascending}
 
 never : {A : Type 0} → true ≡ false → A

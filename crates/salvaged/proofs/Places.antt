@@ -1,6 +1,5 @@
 -- Where changes stay, and each visited entry of the copy is as its own changes leave it. Assumes nothing.
-use mathlib.Core.Path.{◌≡◌, refl, sym, ◌∙◌, ap, subst}
-use mathlib.Core.Bool.{Bool, true, false}
+use mathlib.Core.Path.{◌≡◌, sym, ◌∙◌, subst}
 use mathlib.Core.List.{List, [], ◌∷◌, ◌++◌}
 use Prim.Native.Nat.{ℕ, zero, suc, ◌+◌, ◌-◌, ◌*◌, ◌≤◌, ◌<◌}
 use native.Mathlib.Omega.{arith}
@@ -22,7 +21,7 @@ use Rattle.frame.specs.Same.{Same}
 use Rattle.frame.specs.Change.{Local}
 use Rattle.frame.proofs.Same.{same_bytes_lem, same-trans}
 use Rattle.frame.proofs.Change.{put_local, none-local, both-local, wider}
-use Rattle.mend.specs.Mend.{Mend, Change, mends_of, change_of, changes_by, changes_at, change_start, put, put_all, mended_entry}
+use Rattle.mend.specs.Mend.{Mend, Change, mends_of, changes_by, changes_at, change_start, put, put_all, mended_entry}
 use Rattle.mend.proofs.Changes.{put-append}
 use Rattle.salvage.specs.Salvage.{mended_from, changes_of}
 

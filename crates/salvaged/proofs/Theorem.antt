@@ -1,19 +1,18 @@
 -- The theorems of a salvaged file. Assumes nothing.
 use mathlib.Core.Path.{◌≡◌, refl, sym, ◌∙◌, ap, subst}
-use mathlib.Core.Bool.{Bool, true, false, not}
+use mathlib.Core.Bool.{false}
 use mathlib.Core.List.{List, [], ◌∷◌}
 use mathlib.Core.Logic.{inr}
 use Prim.Native.Nat.{ℕ, ◌+◌, ◌-◌, ◌*◌, ◌≤◌, ◌<◌}
 use native.Mathlib.Decide.{ℕ_discrete}
 use native.Mathlib.Omega.{arith}
-use lib.Dec.{eqb, ltb}
+use lib.Dec.{eqb}
 use lib.ListN.{length, get_or}
 use Rattle.word.proofs.Test.{either}
 use Rattle.update.specs.Update.{Bytes}
 use Rattle.update.proofs.Stores.{sets-outside}
 use Rattle.format.specs.declared.Format.{Format}
 use Rattle.format.specs.declared.FileRange.{FileRange}
-use Rattle.format.specs.declared.SymbolIndex.{SymbolIndex}
 use Rattle.format.specs.Layout.{symbol_length}
 use Rattle.format.specs.Range.{range, bytes_of}
 use Rattle.refusal.specs.declared.Refusal.TheVariants.{Shared}
@@ -32,15 +31,13 @@ use Rattle.debug_section.specs.declared.DebugSection.{DebugSection}
 use Rattle.debug_section.specs.declared.DebugSection.TheVariants.{One, NotOne}
 use Rattle.debug_section.specs.Debug.{debug_ranges, exactly_one, debug_of}
 use Rattle.visibility.specs.Visibility.{has_version2}
-use Rattle.word.specs.Zero.{zero_end}
 use Rattle.symbol.specs.declared.Tables.{Tables}
 use Rattle.symbol.specs.Entry.{OpenTables, entry_start, tables_of, tables_at}
 use Rattle.walk.specs.declared.WalkEnd.{WalkEnd}
-use Rattle.walk.specs.declared.WalkAnswer.{WalkAnswer}
 use Rattle.walk.specs.declared.WalkAnswer.TheVariants.{Ended, Refused}
 use Rattle.walk.specs.Walk.{walk_in, walk_of}
 use Rattle.walk.proofs.Steps.{walk-ended}
-use Rattle.shared_range.specs.Shared.{Holds, Disjoint, DisjointAll}
+use Rattle.shared_range.specs.Shared.{Disjoint, DisjointAll}
 use Rattle.shared_range.proofs.Shared.{apart-all}
 use Rattle.shared_symbols.specs.Shared.{symbol_range, header_area, is_shared}
 use Rattle.frame.specs.Same.{Same}
@@ -52,9 +49,8 @@ use Rattle.frame.proofs.Readers.{SameDebug}
 use Rattle.mend.specs.Mend.{Change, put_all}
 use Rattle.mend.specs.Report.{report_bytes, put_bytes}
 use Rattle.mend.proofs.Changes.{length-report}
-use Rattle.salvage.specs.declared.CountAnswer.{CountAnswer}
 use Rattle.salvage.specs.declared.CountAnswer.TheVariants.{Counted}
-use Rattle.salvage.specs.Salvage.{mended_in, changes_of, changes_in, changes, salvaged, salvage_count}
+use Rattle.salvage.specs.Salvage.{mended_in, changes_in, changes, salvaged, salvage_count}
 use Rattle.salvage.specs.Answer.{salvageable, salvage_check, count_answer, report_after}
 use Rattle.salvaged.specs.Claim.{bit_of, Unset, EachSets}
 use Rattle.salvaged.proofs.Places.{Mended, visited-ascends, changes-local, entries-mended}

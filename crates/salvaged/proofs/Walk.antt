@@ -1,7 +1,7 @@
 -- The walk over mended entries reaches the table's end; where a walk does, nothing is changed. Assumes nothing.
 use mathlib.Core.Path.{◌≡◌, refl, sym, ◌∙◌, ap, subst}
 use mathlib.Core.Bool.{Bool, true, false, cond}
-use mathlib.Core.List.{List, [], ◌∷◌, ◌++◌}
+use mathlib.Core.List.{List, [], ◌∷◌}
 use Prim.Native.Nat.{ℕ, zero, suc, ◌+◌, ◌≤◌, ◌<◌}
 use native.Mathlib.Omega.{arith}
 use lib.Dec.{leb}
@@ -11,21 +11,19 @@ use Rattle.format.specs.declared.SymbolIndex.{SymbolIndex}
 use Rattle.format.specs.Layout.{symbol_layout, symbol_length}
 use Rattle.refusal.specs.declared.Verdict.{Verdict}
 use Rattle.refusal.specs.declared.Verdict.TheVariants as verdict
-use Rattle.refusal.specs.Order.{◌or_else◌, by_verdict, first_refusal}
+use Rattle.refusal.specs.Order.{by_verdict, first_refusal}
 use Rattle.refusal.proofs.Order.{not-accepted, accepted-rest}
 use Rattle.symbol.specs.declared.Tables.{Tables}
 use Rattle.symbol.specs.declared.SymbolEntry.{SymbolEntry}
-use Rattle.symbol.specs.declared.SymbolAnswer.{SymbolAnswer}
 use Rattle.symbol.specs.declared.SymbolAnswer.TheVariants.{Found, Refused}
 use Rattle.symbol.specs.Entry.{OpenTables, entry_start, entry_of}
 use Rattle.symbol.specs.Symbol.{index_check, symbol_checks, symbol_check, symbol_of, symbol_in}
-use Rattle.symbol.proofs.Checks.{symbol-found, symbol-in-table, symbol-numaux}
-use Rattle.walk.specs.declared.WalkEnd.{WalkEnd}
+use Rattle.symbol.proofs.Checks.{symbol-found, symbol-in-table}
 use Rattle.walk.specs.Walk.{visit_step, visited_from, visited_in, behind, cause_at, walk_in}
 use Rattle.frame.specs.Same.{Same}
 use Rattle.frame.proofs.Readers.{SameDebug, symbol-entry-same}
-use Rattle.mend.specs.Mend.{Change, changes_at, put_all, mended_entry}
-use Rattle.mend.proofs.Mended.{mended_of, mended-is}
+use Rattle.mend.specs.Mend.{changes_at, put_all, mended_entry}
+use Rattle.mend.proofs.Mended.{mended-is}
 use Rattle.salvage.specs.Salvage.{mended_from, mended_in, changes_of, changes_in}
 use Rattle.salvaged.proofs.Accepted.{none-changed, mended-accepted}
 use Rattle.salvaged.proofs.Places.{Mended}
