@@ -1,5 +1,6 @@
 // A list of builds and moves, run call by call.
 #![tactic(auto)]
+
 ghost use Rattle.std.specs.Prelude.{◌≡◌, ◌+◌, length};
 ghost use Rattle.history.specs.Images.{images};
 ghost use Rattle.history.specs.Call.{build, move, answer_of, effect};

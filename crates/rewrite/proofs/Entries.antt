@@ -5,7 +5,7 @@ use mathlib.Core.List.{List}
 use Prim.Native.Nat.{ℕ, ◌+◌, ◌-◌, ◌^◌, ◌≤◌, ◌<◌}
 use native.Mathlib.Omega.{arith}
 use lib.ListN.{length}
-use lib.IntN.{ℤ, pos}
+use lib.IntN.{pos}
 use Rattle.update.specs.Update.{remainder, add_field}
 use Rattle.format.specs.Limit.{file_limit}
 use Rattle.relocation.specs.Relocation.{bytes_wide}

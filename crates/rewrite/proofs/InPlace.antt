@@ -2,7 +2,7 @@
 use mathlib.Core.Path.{◌≡◌, refl, sym, ◌∙◌, ap, subst}
 use mathlib.Core.Bool.{Bool, true, false, cond}
 use mathlib.Core.Logic.{◌⊎◌, inl, inr}
-use mathlib.Core.List.{List, [], ◌∷◌, ◌++◌}
+use mathlib.Core.List.{List, [], ◌∷◌}
 use Prim.Native.Nat.{ℕ, zero, suc, ◌+◌, ◌-◌, ◌≤◌, ◌<◌}
 use native.Mathlib.Decide.{dec_lt, dec_le}
 use native.Mathlib.Omega.{arith}
@@ -14,13 +14,12 @@ use Rattle.update.specs.Update.{Apart, bytes_of_number, put_field, update, add_i
 use Rattle.update.proofs.Laws.{length-bytes, length-add}
 use Rattle.update.proofs.Stores.{sets-apart, part-outside, sets-outside, sets-inside, part-stored}
 use Rattle.format.specs.Range.{range}
-use Rattle.relocation.specs.Relocation.{bytes_wide, place_at}
-use Rattle.parts.specs.declared.Parts.{Parts}
+use Rattle.relocation.specs.Relocation.{bytes_wide}
 use Rattle.module.specs.declared.Module.{Module}
 use Rattle.loadable.specs.declared.Loadable.{Loadable}
 use Rattle.loadable.specs.Valid.{Valid}
 use Rattle.history.specs.declared.Relocation.{Relocation}
-use Rattle.history.specs.Images.{Images, images, Shifts, signed, add_at, apply_entry, apply_all, All}
+use Rattle.history.specs.Images.{Images, Shifts, signed, add_at, apply_entry, apply_all, All}
 use Rattle.history.specs.Plan.{Relocatable, Plan, displacements, built_images}
 use Rattle.plan.specs.Relocatable.{relocation_at, raw_text, raw_data, relocatable_of}
 use Rattle.plan.proofs.Raw.{length-raw-text, length-raw-data}
@@ -29,7 +28,7 @@ use Rattle.frame.proofs.Same.{part-part}
 use Rattle.written.specs.Written.{put_text, put_data}
 use Rattle.written.specs.Shared.{part_range}
 use Rattle.written.proofs.Built.{all_from, part_length}
-use Rattle.rewrite.specs.InPlace.{field_place, place_entry, place_all}
+use Rattle.rewrite.specs.InPlace.{place_entry, place_all}
 
 -- ---- fields of a part that was stored
 

@@ -1,12 +1,11 @@
 -- What writing a module does, step by step. Assumes nothing.
 use mathlib.Core.Path.{◌≡◌, refl, sym, ◌∙◌, ap, subst}
-use mathlib.Core.Bool.{Bool, true, false, not}
+use mathlib.Core.Bool.{true, false}
 use mathlib.Core.List.{List}
 use Prim.Native.Nat.{ℕ, ◌+◌, ◌≤◌}
 use lib.ListN.{length}
-use lib.Dec.{eqb}
 use borrow.Author.Tests.{eq-eqb, ne_eqb}
-use Rattle.word.proofs.Test.{or-first, or-second}
+use Rattle.word.proofs.Test.{or-first}
 use Rattle.format.specs.Layout.{header_layout, aux_layout}
 use Rattle.refusal.specs.declared.Refusal.{Refusal}
 use Rattle.refusal.specs.declared.Refusal.TheVariants as refusal
@@ -21,7 +20,6 @@ use Rattle.header.specs.Open.{open_of}
 use Rattle.header.specs.Inside.{Inside}
 use Rattle.header.proofs.Accepted.{opened_inside}
 use Rattle.loadable.specs.declared.Loadable.{Loadable}
-use Rattle.loadable.specs.declared.LoadableAnswer.{LoadableAnswer}
 use Rattle.loadable.specs.declared.LoadableAnswer.TheVariants as answer
 use Rattle.loadable.specs.Loadable.{loadable_at}
 use Rattle.loadable.specs.Valid.{Valid}
@@ -34,8 +32,8 @@ use Rattle.shared_range.proofs.Shared.{separate}
 use Rattle.frame.specs.Change.{each_from}
 use Rattle.rebase.specs.Rebase.{new_address}
 use Rattle.written.specs.Written.{put_text, put_data, put_aux, put_section, put_symbol, put_entry, written_by, written}
-use Rattle.written.specs.Shared.{part_range, file_ranges, loader_ranges, is_shared}
-use Rattle.written.specs.Write.{shared_check, output_room, rewrite_check, written_at, output_after}
+use Rattle.written.specs.Shared.{part_range, file_ranges, is_shared}
+use Rattle.written.specs.Write.{output_room, rewrite_check, written_at, output_after}
 use Rattle.written.proofs.Found.{found-opened, found-format, found-aux}
 use lib.IntN.{pos, ◌-ℤ◌}
 use Rattle.history.specs.declared.Followed.TheVariants as followed

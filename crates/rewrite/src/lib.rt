@@ -1,5 +1,6 @@
 // A module written back into a file for a plan.
 #![tactic(auto)]
+
 ghost use Rattle.std.specs.Prelude.{◌≡◌, ◌+◌, ◌≤◌, ◌<◌, false, length};
 ghost use Rattle.loadable.specs.Valid.{Valid};
 ghost use Rattle.apply.specs.Shift.{ForPlans};

@@ -1,26 +1,24 @@
 -- The new addresses of an accepted plan. Assumes nothing.
-use mathlib.Core.Path.{◌≡◌, refl, sym, ◌∙◌, ap, subst}
-use mathlib.Core.Bool.{Bool, true, false, not, cond, ◌&&◌, ◌||◌}
-use mathlib.Core.List.{List, [], ◌∷◌}
-use Prim.Native.Nat.{ℕ, zero, suc, ◌+◌, ◌-◌, ◌*◌, ◌≤◌, ◌<◌}
+use mathlib.Core.Path.{◌≡◌, refl, sym, ◌∙◌, ap}
+use mathlib.Core.Bool.{true, false, not}
+use Prim.Native.Nat.{ℕ, ◌+◌, ◌-◌, ◌≤◌, ◌<◌}
 use native.Mathlib.Decide.{ℕ_discrete}
 use native.Mathlib.Omega.{arith}
 use lib.ListN.{length, get_or}
-use lib.Dec.{eqb, ltb, leb}
-use lib.IntN.{ℤ, pos, neg_ℤ, ◌+ℤ◌, ◌-ℤ◌, +ℤ_comm, +ℤ_assoc, +ℤ_invr, +ℤ_idr, pos-+ℤ-pos, -ℤ-+ℤ_cancel}
+use lib.Dec.{ltb}
+use lib.IntN.{ℤ, pos, ◌+ℤ◌, ◌-ℤ◌, +ℤ_comm, +ℤ_assoc, pos-+ℤ-pos, -ℤ-+ℤ_cancel}
 use borrow.Author.Tests.{ltb-true, leb-true, not-false}
 use Rattle.word.proofs.Test.{and_first, and_second}
 use Rattle.update.specs.Update.{remainder}
 use Rattle.update.proofs.Remainder.{remainder-lt, remainder-small}
-use Rattle.refusal.specs.declared.Verdict.{Verdict}
-use Rattle.refusal.specs.declared.Verdict.TheVariants.{Accepted, Refused}
+use Rattle.refusal.specs.declared.Verdict.TheVariants.{Accepted}
 use Rattle.refusal.specs.declared.Refusal.TheVariants as refusal
-use Rattle.refusal.specs.declared.PlanItem.TheVariants.{TextAddress, DataAddress, ImportAddress}
-use Rattle.refusal.specs.Order.{◌or_else◌, refuse_if, first_of}
+use Rattle.refusal.specs.declared.PlanItem.TheVariants.{TextAddress, DataAddress}
+use Rattle.refusal.specs.Order.{refuse_if}
 use Rattle.refusal.proofs.Order.{accepted-first, accepted-rest, accepted-test, first-all}
 use Rattle.parts.specs.declared.Parts.{Parts}
 use Rattle.module.specs.Module.{bss_below, image_length}
-use Rattle.module.proofs.Extent.{bss-after, image-plain, image-bss}
+use Rattle.module.proofs.Extent.{bss-after, image-bss}
 use Rattle.history.specs.declared.Followed.{Followed}
 use Rattle.history.specs.declared.Followed.TheVariants as followed
 use Rattle.history.specs.Plan.{Relocatable, Plan, limit_of, displacement_of, fits, list_check, address_check, import_check, fit_check, plan_check}

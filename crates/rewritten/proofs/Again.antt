@@ -1,24 +1,23 @@
 -- A module written for one plan and then for another is the one written for the other. Assumes nothing.
-use mathlib.Core.Path.{◌≡◌, refl, sym, ◌∙◌, ap, subst}
+use mathlib.Core.Path.{◌≡◌, refl, sym, ◌∙◌, ap}
 use mathlib.Core.Bool.{Bool, true, false, cond, ◌||◌}
 use mathlib.Core.List.{List}
 use Prim.Native.Nat.{ℕ, zero, suc, ◌+◌, ◌<◌}
 use native.Mathlib.Omega.{arith}
 use lib.Dec.{eqb}
-use lib.ListN.{length, get_or, take, length-take}
+use lib.ListN.{length, take, length-take}
 use Rattle.word.specs.declared.Field.{Field}
 use Rattle.word.specs.Number.{field_in}
 use Rattle.word.proofs.Test.{either}
 use Rattle.section_kind.specs.Kind.{flags_of}
 use Rattle.format.specs.declared.Format.{Format}
 use Rattle.format.specs.Layout.{header_layout, section_layout, aux_layout, symbol_layout, relocation_layout, address_limit}
-use Rattle.refusal.specs.declared.Verdict.TheVariants.{Accepted}
 use Rattle.section.specs.declared.Section.{Section}
 use Rattle.section.specs.declared.SectionHeader.{SectionHeader}
 use Rattle.section.specs.Section.{section_header_at}
 use Rattle.file_header.specs.declared.FileHeader.{FileHeader}
 use Rattle.file_header.specs.Header.{header_at, section_start}
-use Rattle.file_tables.specs.Tables.{blank_section, sections_of}
+use Rattle.file_tables.specs.Tables.{sections_of}
 use Rattle.header.specs.declared.Summary.{Summary}
 use Rattle.header.specs.declared.Opened.{Opened}
 use Rattle.header.specs.Open.{summary_with, summary_as, open_of}
@@ -27,7 +26,6 @@ use Rattle.parts.specs.Sections.{flag_at}
 use Rattle.auxiliary.specs.declared.AuxHeader.{AuxHeader}
 use Rattle.auxiliary.specs.Auxiliary.{aux_at}
 use Rattle.module.specs.declared.Anchor.{Anchor}
-use Rattle.module.specs.declared.Module.{Module}
 use Rattle.loader_symbol.specs.declared.LoaderEntry.{LoaderEntry}
 use Rattle.loader_symbol.specs.Symbol as symbol
 use Rattle.relocation.specs.declared.RelocationEntry.{RelocationEntry}
@@ -43,15 +41,14 @@ use Rattle.plan.specs.Relocatable.{followed_at, anchored, relocatable_of}
 use Rattle.frame.specs.Change.{put_in, each_from}
 use Rattle.rebase.specs.Rebase.{new_address, rebased_symbol, rebased}
 use Rattle.rebase.proofs.Rebased.{address-again, built-rebased}
-use Rattle.written.specs.Written.{flag_follows, anchor_by, anchor_follows, entry_follows, moves, put_address, put_header, put_section, put_aux, put_symbol, put_entry, put_text, put_data, written_by, written}
-use Rattle.written.specs.Moved.{Fresh, moved_header, moved_section, moved_aux, moved_parts, moved_anchor, moved_module, moved_entry, moved_relocation}
+use Rattle.written.specs.Written.{flag_follows, anchor_by, anchor_follows, entry_follows, put_address, put_header, put_section, put_aux, put_symbol, put_entry, put_text, put_data, written_by, written}
+use Rattle.written.specs.Moved.{Fresh, moved_header, moved_parts, moved_anchor, moved_module, moved_relocation}
 use Rattle.written.proofs.Found.{LoadableFound}
 use Rattle.written.proofs.Built.{length-built, length-built-text}
 use Rattle.rewritten.proofs.Address.{PlanFits}
 use Rattle.rewritten.proofs.Covers.{covers-again, covers-written}
-use Rattle.rewritten.proofs.Read.{w6}
 use Rattle.rewritten.proofs.Parts.{with_sections}
-use Rattle.rewritten.proofs.Opens.{Ready, W, sections-count, header-moved, section-moved, written-opens, length-written}
+use Rattle.rewritten.proofs.Opens.{Ready, W, sections-count, header-moved, section-moved, written-opens}
 use Rattle.rewritten.proofs.Loads.{aux-at}
 use Rattle.rewritten.proofs.Loaded.{symbol-moved, entry-moved}
 use Rattle.rewritten.proofs.Rebases.{followed-kept, relocatable-kept}

@@ -1,19 +1,16 @@
 -- Loader symbols and relocation entries with new addresses: judged as before, and the fields named are the same. Assumes nothing.
-use mathlib.Core.Path.{◌≡◌, refl, sym, ◌∙◌, ap}
-use mathlib.Core.Bool.{Bool, true, false, not, cond, ◌&&◌, ◌||◌}
-use mathlib.Core.List.{List, [], ◌∷◌}
-use Prim.Native.Nat.{ℕ, zero, suc, ◌+◌, ◌-◌, ◌*◌, ◌%◌, ◌/◌, ◌≤◌, ◌<◌}
+use mathlib.Core.Path.{◌≡◌, refl, ap}
+use mathlib.Core.Bool.{Bool, true, false, cond}
+use Prim.Native.Nat.{ℕ, zero, suc, ◌+◌, ◌-◌, ◌≤◌, ◌<◌}
 use native.Mathlib.Decide.{ℕ_discrete}
 use native.Mathlib.Omega.{arith}
-use lib.ListN.{length, get_or}
-use lib.Dec.{eqb, ltb, leb}
-use borrow.Author.Tests.{eq-eqb, ne_eqb, eqb-true, le-leb, not-false}
-use Rattle.word.proofs.Test.{and_first, and_second, either}
+use lib.ListN.{get_or}
+use lib.Dec.{eqb}
+use borrow.Author.Tests.{eq-eqb, ne_eqb, le-leb}
+use Rattle.word.proofs.Test.{and_first}
 use Rattle.format.specs.declared.Format.{Format}
 use Rattle.format.specs.declared.SectionNumber.{SectionNumber}
-use Rattle.refusal.specs.declared.Verdict.{Verdict}
-use Rattle.refusal.specs.declared.Verdict.TheVariants.{Accepted, Refused}
-use Rattle.refusal.specs.Order.{◌or_else◌, refuse_if, first_of}
+use Rattle.refusal.specs.declared.Verdict.TheVariants.{Accepted}
 use Rattle.parts.specs.declared.Part.{Part}
 use Rattle.parts.specs.declared.Parts.{Parts}
 use Rattle.module.specs.Module.{image_length}
@@ -21,9 +18,9 @@ use Rattle.loader_symbol.specs.declared.LoaderEntry.{LoaderEntry}
 use Rattle.loader_symbol.specs.Symbol.{is_imported, is_placed}
 use Rattle.relocation.specs.declared.RelocationEntry.{RelocationEntry}
 use Rattle.relocation.specs.declared.FieldPlace.{FieldPlace}
-use Rattle.relocation.specs.Relocation.{is_thread, is_type, is_width, is_wide, width_bits, bytes_wide, is_inside, is_held, is_good, own_check, place_of}
+use Rattle.relocation.specs.Relocation.{is_wide, bytes_wide, is_inside, is_held, is_good, own_check, place_of}
 use Rattle.relocation.proofs.Entries.{inside-known, own_held, held-text, held-data}
-use Rattle.field_overlap.specs.Overlap.{overlaps, meets_one, meets}
+use Rattle.field_overlap.specs.Overlap.{meets_one, meets}
 use Rattle.history.specs.declared.Followed.{Followed}
 use Rattle.history.specs.declared.Followed.TheVariants as followed
 use Rattle.history.specs.Plan.{Plan}

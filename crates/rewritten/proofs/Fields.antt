@@ -1,20 +1,15 @@
 -- Records of which addresses were put in anew. Assumes nothing.
 use mathlib.Core.Path.{◌≡◌, refl, sym, ◌∙◌, ap}
-use mathlib.Core.Bool.{Bool, true, false, cond, ◌||◌, ◌&&◌}
-use mathlib.Core.Logic.{◌⊎◌, inl, inr}
-use mathlib.Core.List.{List, [], ◌∷◌}
-use Prim.Native.Nat.{ℕ, zero, suc, ◌+◌, ◌-◌, ◌*◌, ◌^◌, ◌≤◌, ◌<◌}
-use native.Mathlib.Nat.{mod-eq_of_lt}
+use mathlib.Core.Bool.{Bool, true, false, cond, ◌&&◌}
+use mathlib.Core.List.{List}
+use Prim.Native.Nat.{ℕ, ◌+◌, ◌^◌, ◌≤◌}
 use native.Mathlib.Omega.{arith}
-use lib.ListN.{length, get_or, take, drop}
-use lib.Dec.{leb, lit≤}
-use borrow.Author.Tests.{leb-true}
+use lib.ListN.{length}
+use lib.Dec.{lit≤}
 use Rattle.word.proofs.Test.{and_first, and_second}
 use Rattle.word.specs.declared.Field.{Field}
-use Rattle.word.specs.declared.Width.TheVariants.{One, Two, Four, Eight}
-use Rattle.word.specs.Number.{field_at, field, bytes_in, field_in}
-use Rattle.update.specs.Update.{Apart, put_field}
-use Rattle.update.proofs.Laws.{field_put, field_apart}
+use Rattle.word.specs.declared.Width.TheVariants.{One, Two, Four}
+use Rattle.word.specs.Number.{field, bytes_in, field_in}
 use Rattle.format.specs.declared.Format.{Format}
 use Rattle.format.specs.declared.Format.TheVariants.{Xcoff32, Xcoff64}
 use Rattle.format.specs.Layout.{section_layout, aux_layout, aux_numbers, symbol_layout, zeroes_field, relocation_layout, loader_symbol_length, address_limit}

@@ -1,45 +1,32 @@
 -- Sections with new addresses are judged as before. Assumes nothing.
 use mathlib.Core.Path.{◌≡◌, refl, sym, ◌∙◌, ap, subst}
 use mathlib.Core.Bool.{Bool, true, false, not, cond, ◌&&◌, ◌||◌}
-use mathlib.Core.List.{List, [], ◌∷◌}
-use Prim.Native.Nat.{ℕ, zero, suc, ◌+◌, ◌-◌, ◌*◌, ◌≤◌, ◌<◌}
+use mathlib.Core.List.{List}
+use Prim.Native.Nat.{ℕ, zero, suc, ◌+◌, ◌-◌, ◌≤◌, ◌<◌}
 use native.Mathlib.Decide.{ℕ_discrete}
 use native.Mathlib.Omega.{arith}
-use lib.ListN.{length, get_or}
-use lib.Dec.{eqb, ltb}
-use borrow.Author.Tests.{eq-eqb, ne_eqb, eqb-true, eqb-false, le-ltb, not-true, not-false}
+use lib.Dec.{eqb}
+use borrow.Author.Tests.{eq-eqb, eqb-true, eqb-false, not-false}
 use Rattle.word.specs.Test.{past}
-use Rattle.word.proofs.Test.{and_first, and_second, or-first, or-second, past-no, past-not}
+use Rattle.word.proofs.Test.{or-first, past-no}
 use Rattle.format.specs.declared.Format.{Format}
 use Rattle.section_kind.specs.declared.SectionKind.{SectionKind}
-use Rattle.section_kind.specs.declared.SectionKind.TheVariants as kind
 use Rattle.format.specs.declared.SectionNumber.{SectionNumber}
 use Rattle.section_kind.specs.declared.KindAnswer.{KindAnswer}
 use Rattle.section_kind.specs.declared.KindAnswer.TheVariants.{Allowed, NotAllowed}
-use Rattle.section_kind.specs.Kind.{kind_of, flags_of, has_raw_kind, is_placed_kind}
+use Rattle.section_kind.specs.Kind.{kind_of, flags_of, is_placed_kind}
 use Rattle.format.specs.Layout.{address_limit}
-use Rattle.refusal.specs.declared.Verdict.{Verdict}
 use Rattle.refusal.specs.declared.Refusal.TheVariants as refusal
 use Rattle.refusal.specs.declared.BoundsItem.TheVariants.{RawData}
 use Rattle.refusal.specs.declared.AddressItem.TheVariants.{Misplaced}
 use Rattle.section.specs.declared.SectionHeader.{SectionHeader}
 use Rattle.section.specs.declared.Section.{Section}
-use Rattle.section.specs.declared.SectionAnswer.{SectionAnswer}
 use Rattle.section.specs.declared.SectionAnswer.TheVariants.{Found, Refused}
 use Rattle.section.specs.Section.{has_raw_data, raw_data_past, misplaced, section_of, judge_kind, judge_section}
-use Rattle.file_tables.specs.Tables.{blank_section}
-use Rattle.header.specs.declared.Summary.{Summary}
-use Rattle.parts.specs.declared.Tally.{Tally}
-use Rattle.parts.specs.declared.Part.{Part}
-use Rattle.parts.specs.declared.Parts.{Parts}
-use Rattle.parts.specs.Sections.{flag_at, tally, tally_of, tallies_of, one_each, part_at, parts_of, thread_at, thread_check}
-use Rattle.parts.proofs.Tallied.{tally-few, tally-some, one_known}
-use Rattle.refusal.specs.Order.{first_of}
+use Rattle.parts.specs.Sections.{flag_at, tally}
 use Rattle.history.specs.declared.Followed.{Followed}
-use Rattle.history.specs.declared.Followed.TheVariants as followed
 use Rattle.written.specs.Written.{flag_follows}
-use Rattle.written.specs.Moved.{moved_header, moved_section, moved_part, moved_parts}
-use Rattle.frame.proofs.Open.{first-same}
+use Rattle.written.specs.Moved.{moved_header, moved_section}
 
 -- ---- one section
 

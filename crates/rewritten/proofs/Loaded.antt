@@ -1,47 +1,38 @@
 -- The loader section and the entries of a written file are judged as before. Assumes nothing.
-use mathlib.Core.Path.{◌≡◌, refl, sym, ◌∙◌, ap, ap₂, subst}
-use mathlib.Core.Bool.{Bool, true, false, not, cond, ◌&&◌, ◌||◌}
-use mathlib.Core.List.{List, [], ◌∷◌}
-use Prim.Native.Nat.{ℕ, zero, suc, ◌+◌, ◌-◌, ◌*◌, ◌%◌, ◌≤◌, ◌<◌}
-use native.Mathlib.Decide.{dec_lt, ℕ_discrete}
+use mathlib.Core.Path.{◌≡◌, refl, sym, ◌∙◌, ap, subst}
+use mathlib.Core.List.{List}
+use Prim.Native.Nat.{ℕ, ◌+◌, ◌≤◌, ◌<◌}
+use native.Mathlib.Decide.{ℕ_discrete}
 use native.Mathlib.Omega.{arith}
-use lib.ListN.{length, get_or, take, drop}
-use lib.Dec.{eqb, ltb}
-use Rattle.word.specs.Zero.{zeros_in}
+use lib.ListN.{length}
+use lib.Dec.{eqb}
 use Rattle.word.proofs.Test.{either}
 use Rattle.format.specs.declared.Format.{Format}
 use Rattle.format.specs.declared.FileRange.{FileRange}
 use Rattle.format.specs.declared.NameField.{NameField}
 use Rattle.format.specs.declared.NameField.TheVariants.{Short, Offset}
-use Rattle.format.specs.Layout.{loader_layout, loader_symbol_length, relocation_layout, address_limit, symbol_layout}
-use Rattle.format.specs.Range.{range, bytes_of}
-use Rattle.refusal.specs.declared.Verdict.{Verdict}
-use Rattle.refusal.specs.declared.Verdict.TheVariants.{Accepted, Refused}
-use Rattle.refusal.specs.declared.Refusal.TheVariants as refusal
-use Rattle.refusal.specs.Order.{◌or_else◌, refuse_if, first_of}
-use Rattle.refusal.proofs.Order.{accepted-first, accepted-rest, accepted-test, first-all}
+use Rattle.format.specs.Layout.{loader_symbol_length, relocation_layout, address_limit}
+use Rattle.format.specs.Range.{bytes_of}
+use Rattle.refusal.specs.declared.Verdict.TheVariants.{Accepted}
+use Rattle.refusal.proofs.Order.{accepted-rest, first-all}
 use Rattle.parts.specs.declared.Parts.{Parts}
 use Rattle.parts.specs.Sections.{parts_of}
 use Rattle.module.specs.declared.Module.{Module}
 use Rattle.module.specs.Module.{image_length, module_with, aux_of}
-use Rattle.loader_header.specs.declared.LoaderHeader.{LoaderHeader}
 use Rattle.loader_header.specs.declared.LoaderTables.{LoaderTables}
-use Rattle.loader_header.specs.Header.{loader_header_at, tables_of, header_check, places_check, numbers_check}
+use Rattle.loader_header.specs.Header.{loader_header_at, tables_of, header_check, places_check}
 use Rattle.loader_symbol.specs.declared.LoaderEntry.{LoaderEntry}
 use Rattle.loader_symbol.specs.Symbol as symbol
 use Rattle.loader.specs.Loader.{tables_in, symbols_check, loader_check}
 use Rattle.relocation.specs.declared.RelocationEntry.{RelocationEntry}
-use Rattle.relocation.specs.declared.FieldPlace.{FieldPlace}
 use Rattle.relocation.specs.Relocation as relocation
 use Rattle.relocation.proofs.Entries.{own_held, entry_whole}
-use Rattle.field_overlap.specs.Overlap.{meets}
 use Rattle.loadable.specs.declared.Loadable.{Loadable}
 use Rattle.loadable.specs.declared.LoadableAnswer.TheVariants as answer
 use Rattle.loader_entries.specs.Entries.{entry_check, entries_check}
 use Rattle.loadable.specs.Loadable.{loadable_at}
 use Rattle.loadable.specs.Valid.{Valid}
 use Rattle.history.specs.declared.Followed.{Followed}
-use Rattle.history.specs.declared.Followed.TheVariants as followed
 use Rattle.history.specs.Images.{Images}
 use Rattle.plan.specs.Relocatable.{followed_at}
 use Rattle.frame.specs.Same.{Same}

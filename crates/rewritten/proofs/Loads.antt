@@ -1,25 +1,22 @@
 -- A written file is a module, with the new addresses. Assumes nothing.
 use mathlib.Core.Path.{◌≡◌, refl, sym, ◌∙◌, ap, subst}
-use mathlib.Core.Bool.{Bool, true, false, not, cond, ◌&&◌, ◌||◌}
-use mathlib.Core.List.{List, [], ◌∷◌}
-use Prim.Native.Nat.{ℕ, zero, suc, ◌+◌, ◌-◌, ◌*◌, ◌≤◌, ◌<◌}
-use native.Mathlib.Decide.{dec_lt, ℕ_discrete}
+use mathlib.Core.Bool.{not}
+use mathlib.Core.List.{List}
+use Prim.Native.Nat.{ℕ, ◌+◌, ◌≤◌, ◌<◌}
+use native.Mathlib.Decide.{ℕ_discrete}
 use native.Mathlib.Omega.{arith}
-use lib.ListN.{length, get_or, take, drop}
-use lib.Dec.{eqb, ltb}
+use lib.ListN.{length, get_or}
+use lib.Dec.{ltb}
 use Rattle.format.specs.declared.Format.{Format}
-use Rattle.format.specs.Layout.{header_layout, section_layout, aux_layout, address_limit}
-use Rattle.refusal.specs.declared.Verdict.{Verdict}
-use Rattle.refusal.specs.declared.Verdict.TheVariants.{Accepted, Refused}
-use Rattle.refusal.specs.declared.Refusal.TheVariants as refusal
-use Rattle.refusal.specs.declared.ModuleItem.TheVariants.{ShortAuxHeader, SectionSet}
-use Rattle.refusal.specs.Order.{◌or_else◌, refuse_if, first_of}
+use Rattle.format.specs.Layout.{header_layout, aux_layout, address_limit}
+use Rattle.refusal.specs.declared.Verdict.TheVariants.{Accepted}
+use Rattle.refusal.specs.Order.{refuse_if}
 use Rattle.refusal.proofs.Order.{accepted-first, accepted-rest, accepted-test}
 use Rattle.file_header.specs.declared.FileHeader.{FileHeader}
 use Rattle.file_header.specs.Header.{header_at, section_start}
 use Rattle.file_tables.specs.Tables.{sections_of, blank_section}
 use Rattle.header.specs.declared.Summary.{Summary}
-use Rattle.header.specs.Open.{summary_with, open_of}
+use Rattle.header.specs.Open.{summary_with}
 use Rattle.file_header.proofs.Checked.{header-complete}
 use Rattle.auxiliary.specs.declared.AuxHeader.{AuxHeader}
 use Rattle.auxiliary.specs.Auxiliary.{aux_at}
@@ -27,24 +24,22 @@ use Rattle.parts.specs.declared.Parts.{Parts}
 use Rattle.parts.specs.Sections.{tallies_of, one_each, parts_of, thread_check}
 use Rattle.module.specs.declared.Module.{Module}
 use Rattle.module.specs.declared.ModuleAnswer.TheVariants as module-answer
-use Rattle.module.specs.Module.{bss_below, image_length, parts_check, aux_of, module_check, module_with, module_at}
+use Rattle.module.specs.Module.{image_length, parts_check, aux_of, module_check, module_with, module_at}
 use Rattle.module.proofs.Extent.{parts-image}
 use Rattle.loadable.specs.declared.Loadable.{Loadable}
 use Rattle.history.specs.declared.Followed.{Followed}
 use Rattle.history.specs.declared.Followed.TheVariants as followed
 use Rattle.history.specs.Images.{Images}
 use Rattle.written.specs.Written.{anchor_follows}
-use Rattle.frame.specs.Same.{Same}
 use Rattle.written.specs.Written.{put_aux}
 use Rattle.written.specs.Moved.{Fresh, moved_section, moved_aux, moved_parts, moved_module}
 use Rattle.frame.proofs.Readers.{aux-same}
 use Rattle.header.specs.Open.{summary_as}
-use Rattle.frame.proofs.Open.{Reads}
 use Rattle.rewritten.proofs.Fields.{aux_put, aux-put}
-use Rattle.rewritten.proofs.Parts.{Moves, with_sections, tallies-moved, thread-moved, parts-moved, image-moved, check-moved}
+use Rattle.rewritten.proofs.Parts.{with_sections, tallies-moved, thread-moved, parts-moved, image-moved, check-moved}
 use Rattle.written.proofs.Found.{module-at}
-use Rattle.rewritten.proofs.Read.{w2, w3, w6, length2, aux-read, aux-before}
-use Rattle.rewritten.proofs.Opens.{Ready, W, format-of, sections-count, section-moved, written-opens, length-written}
+use Rattle.rewritten.proofs.Read.{w2, w3, length2, aux-read, aux-before}
+use Rattle.rewritten.proofs.Opens.{Ready, W, format-of, sections-count, section-moved, written-opens}
 
 -- a module with new addresses, in terms of its parts
 module-is : (new : Followed → ℕ → ℕ) (F : Format) (p : Parts) (a : AuxHeader) (fe ft : Followed) → fe ≡ anchor_follows (module_with F p a).parts (module_with F p a).entry → ft ≡ anchor_follows (module_with F p a).parts (module_with F p a).toc

@@ -1,32 +1,28 @@
 -- A written file opens, with the new addresses in its sections. Assumes nothing.
 use mathlib.Core.Path.{◌≡◌, refl, sym, ◌∙◌, ap, subst}
-use mathlib.Core.Bool.{Bool, true, false, not, cond, ◌&&◌, ◌||◌}
+use mathlib.Core.Bool.{true, false, ◌&&◌, ◌||◌}
 use mathlib.Core.Logic.{◌⊎◌, inl, inr}
-use mathlib.Core.List.{List, [], ◌∷◌}
-use Prim.Native.Nat.{ℕ, zero, suc, ◌+◌, ◌-◌, ◌*◌, ◌≤◌, ◌<◌}
-use native.Mathlib.Decide.{dec_lt, ℕ_discrete}
+use mathlib.Core.List.{List}
+use Prim.Native.Nat.{ℕ, ◌+◌, ◌-◌, ◌*◌, ◌≤◌, ◌<◌}
+use native.Mathlib.Decide.{ℕ_discrete}
 use native.Mathlib.Omega.{arith}
-use lib.ListN.{length, get_or, take, drop}
-use lib.Dec.{eqb, ltb, lit≤}
-use borrow.Author.Tests.{eq-eqb, ne_eqb, ltb-false, le-ltb, lt-ltb}
+use lib.ListN.{length, get_or, take}
+use lib.Dec.{eqb, ltb}
+use borrow.Author.Tests.{eq-eqb, ne_eqb, ltb-false, lt-ltb}
 use Rattle.word.specs.Test.{past}
 use Rattle.refusal.proofs.Order.{accepted-first, accepted-rest, accepted-test}
 use Rattle.word.specs.Number.{field_at, field_in}
-use Rattle.word.proofs.Test.{either, and_first, and_second}
+use Rattle.word.proofs.Test.{either}
 use Rattle.format.specs.declared.Format.{Format}
 use Rattle.format.specs.declared.Format.TheVariants.{Xcoff32, Xcoff64}
-use Rattle.format.specs.declared.MagicAnswer.TheVariants.{Known}
 use Rattle.section_kind.specs.declared.SectionKind.{SectionKind}
 use Rattle.section_kind.specs.declared.SectionKind.TheVariants as kind
 use Rattle.section_kind.specs.Kind.{flags_of, is_placed_kind}
 use Rattle.format.specs.Layout.{magic_field, format_of, header_layout, section_layout, aux_layout, address_limit, symbol_length}
-use Rattle.format.specs.Limit.{file_limit, section_limit}
-use Rattle.refusal.specs.declared.Verdict.{Verdict}
-use Rattle.refusal.specs.declared.Verdict.TheVariants.{Accepted, Refused}
-use Rattle.refusal.specs.Order.{◌or_else◌, refuse_if, first_of}
+use Rattle.refusal.specs.declared.Verdict.TheVariants.{Accepted}
+use Rattle.refusal.specs.Order.{refuse_if}
 use Rattle.section.specs.declared.SectionHeader.{SectionHeader}
 use Rattle.section.specs.declared.Section.{Section}
-use Rattle.section.specs.declared.SectionAnswer.{SectionAnswer}
 use Rattle.section.specs.declared.SectionAnswer.TheVariants as section
 use Rattle.section.specs.Section.{section_header_at, judge_section}
 use Rattle.file_header.specs.declared.FileHeader.{FileHeader}
@@ -35,8 +31,7 @@ use Rattle.file_tables.specs.Tables.{blank_section, judged_at, verdict_of, recor
 use Rattle.header.specs.declared.Summary.{Summary}
 use Rattle.header.specs.Open.{summary_with, open_of}
 use Rattle.file_header.proofs.Checked.{header-complete}
-use Rattle.parts.specs.declared.Parts.{Parts}
-use Rattle.parts.specs.Sections.{flag_at, tally, tally_of, part_at, parts_of}
+use Rattle.parts.specs.Sections.{flag_at, tally_of, part_at, parts_of}
 use Rattle.module.specs.Module.{image_length, aux_of, module_check, module_with}
 use Rattle.written.specs.Written.{anchor_follows}
 use Rattle.loadable.specs.declared.Loadable.{Loadable}
@@ -46,19 +41,19 @@ use Rattle.history.specs.Images.{Images}
 use Rattle.frame.specs.Same.{Same}
 use Rattle.written.specs.Written.{put_header, put_section, flag_follows}
 use Rattle.written.specs.Shared.{strings_size}
-use Rattle.written.specs.Moved.{Fresh, moved_header, moved_section, moved_parts}
+use Rattle.written.specs.Moved.{Fresh, moved_header, moved_section}
 use Rattle.field_overlap.proofs.Rule.{no_true}
-use Rattle.frame.proofs.Same.{same-within, same_number}
+use Rattle.frame.proofs.Same.{same_number}
 use Rattle.frame.proofs.Readers.{header-same, section-same}
 use Rattle.header.specs.Open.{summary_as}
 use Rattle.header.proofs.Accepted.{section-record}
-use Rattle.frame.proofs.Open.{Reads, reads-opened, symbols-same, table_same, accept-all, judged-found, count_of, strings-of, section-in-area}
+use Rattle.frame.proofs.Open.{Reads, reads-opened, symbols-same, table_same, accept-all, judged-found, strings-of, section-in-area}
 use Rattle.rewritten.proofs.Fields.{section-put}
 use Rattle.rewritten.proofs.Judge.{judge-moved, tally-one}
 use Rattle.rewritten.proofs.Parts.{Ones, Moves, with_sections}
 use Rattle.written.proofs.Found.{TablesWithin}
 use Rattle.rewritten.proofs.Stages.{Clear, LoaderClear}
-use Rattle.rewritten.proofs.Read.{w2, w3, w6, length3, length6, header_read, section-read, section-before, strings-read}
+use Rattle.rewritten.proofs.Read.{w3, w6, length3, length6, header_read, section-read, section-before, strings-read}
 
 -- all that the theorem rests on: the file opens, no two parts share a byte, and the new addresses fit
 pub record Ready (new : Followed → ℕ → ℕ) (x : Images) (file : List ℕ) (f : Format) (l : Loadable) : Type 0 where

@@ -1,13 +1,9 @@
 -- The same of the operation: where `write_module` accepts, on whatever file. Assumes nothing.
-use mathlib.Core.Path.{◌≡◌, refl, sym, ◌∙◌, ap, subst}
-use mathlib.Core.Bool.{Bool, true, false}
+use mathlib.Core.Path.{◌≡◌, refl, sym, ◌∙◌, ap}
 use mathlib.Core.List.{List}
 use Prim.Native.Nat.{ℕ}
-use native.Mathlib.Omega.{arith}
 use lib.ListN.{length, get_or}
-use Rattle.refusal.specs.declared.Refusal.{Refusal}
 use Rattle.refusal.specs.declared.Refusal.TheVariants as refusal
-use Rattle.refusal.specs.declared.Verdict.{Verdict}
 use Rattle.refusal.specs.declared.Verdict.TheVariants.{Accepted, Refused}
 use Rattle.refusal.specs.Order.{◌or_else◌, refuse_if}
 use Rattle.refusal.proofs.Order.{accepted-first, accepted-rest, accepted-test, not-accepted}
@@ -25,7 +21,7 @@ use Rattle.plan.specs.Relocatable.{relocatable_of, relocatable_by, relocatable_a
 use Rattle.rebase.specs.Rebase.{recorded_plan}
 use Rattle.written.specs.Written.{written}
 use Rattle.written.specs.Shared.{is_shared}
-use Rattle.written.specs.Write.{shared_check, output_room, rewrite_check, written_by, written_at}
+use Rattle.written.specs.Write.{shared_check, output_room, rewrite_check, written_at}
 use Rattle.written.specs.Changed.{Changed}
 use Rattle.rewritten.proofs.Reports.{reports-alike}
 use Rattle.rewritten.proofs.Theorem.{Writable, written-opens-again, written-runs, written-answers, written-recorded, written-length, written_byte, written-again, relocatable-is}

@@ -1,11 +1,10 @@
 -- "The length and every other byte stay." Assumes nothing.
-use mathlib.Core.Path.{◌≡◌, refl, sym, ◌∙◌, ap, subst}
-use mathlib.Core.Bool.{Bool, true, false}
-use mathlib.Core.List.{List, [], ◌∷◌}
-use Prim.Native.Nat.{ℕ, zero, suc, ◌+◌, ◌≤◌, ◌<◌}
+use mathlib.Core.Path.{◌≡◌, refl, ◌∙◌, subst}
+use mathlib.Core.Bool.{true}
+use mathlib.Core.List.{List}
+use Prim.Native.Nat.{ℕ, zero, suc, ◌+◌, ◌<◌}
 use native.Mathlib.Omega.{arith}
 use lib.ListN.{length, get_or, take}
-use lib.Seq.{sets, length-sets}
 use Rattle.word.specs.declared.Field.{Field}
 use Rattle.format.specs.Layout.{header_layout, section_layout, aux_layout, symbol_layout, relocation_layout}
 use Rattle.format.specs.Range.{range}
@@ -23,7 +22,6 @@ use Rattle.plan.specs.Relocatable.{followed_at}
 use Rattle.shared_range.specs.Shared.{Holds}
 use Rattle.frame.specs.Change.{each_from}
 use Rattle.written.specs.Written.{put_address, moves, flag_follows, entry_follows, put_section, put_aux, put_symbol, put_entry, put_text, put_data, written_by}
-use Rattle.written.specs.Shared.{part_range}
 use Rattle.written.specs.Changed.{field_range, Changed}
 use Rattle.written.specs.Changed.Changed.{raw_text, raw_data, text_start, data_start, entry, toc, paddr, vaddr, value, address}
 use Rattle.frame.proofs.Change.{stored-local}

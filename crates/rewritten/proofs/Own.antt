@@ -6,8 +6,8 @@ use Prim.Native.Nat.{ℕ, zero, suc, ◌+◌, ◌-◌, ◌*◌, ◌^◌, ◌≤�
 use native.Mathlib.Decide.{dec_lt}
 use native.Mathlib.Omega.{arith}
 use lib.Dec.{eqb}
-use lib.ListN.{length, get_or, take, drop, replicate, length-take, get_or-eq_default, get_or-append, get_or-replicate, take-append-drop}
-use lib.Seq.{sets, sets-eq, drop-drop, take_at, get_or-take, get_or-drop, get_or-append-add}
+use lib.ListN.{length, get_or, take, drop, replicate, length-take, get_or-eq_default, take-append-drop}
+use lib.Seq.{sets, sets-eq, drop-drop, take_at, get_or-take, get_or-drop}
 use Rattle.word.specs.declared.Field.{Field}
 use Rattle.word.specs.declared.Width.TheVariants.{Four, Eight}
 use Rattle.word.specs.Number.{bytes_in, field, field_in}
@@ -40,7 +40,7 @@ use Rattle.history.specs.declared.Followed.TheVariants as followed
 use Rattle.history.specs.Images.{Images}
 use Rattle.history.specs.Plan.{Relocatable, Plan, Anchored, Sound, limit_of, built_images}
 use Rattle.history.specs.Plan.Anchored.{none, in_text, in_data}
-use Rattle.plan.specs.Relocatable.{followed_of, followed_in, followed_at, symbols_from, raw_text, raw_data, anchored, relocatable_of, relocatable_at}
+use Rattle.plan.specs.Relocatable.{followed_of, followed_in, followed_at, raw_text, raw_data, anchored, relocatable_of}
 use Rattle.plan.proofs.Symbols.{symbol-at, symbol-in}
 use Rattle.plan.proofs.Sound.{relocatable-sound}
 use Rattle.frame.specs.Change.{put_in, each_from}

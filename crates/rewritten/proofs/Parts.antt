@@ -1,22 +1,17 @@
 -- The parts of a module whose sections have new addresses. Assumes nothing.
-use mathlib.Core.Path.{◌≡◌, refl, sym, ◌∙◌, ap}
-use mathlib.Core.Bool.{Bool, true, false, not, cond, ◌&&◌, ◌||◌}
-use mathlib.Core.List.{List, [], ◌∷◌}
-use Prim.Native.Nat.{ℕ, zero, suc, ◌+◌, ◌-◌, ◌*◌, ◌≤◌, ◌<◌}
+use mathlib.Core.Path.{◌≡◌, refl, ap}
+use mathlib.Core.Bool.{true, false, not, ◌&&◌}
+use mathlib.Core.List.{List}
+use Prim.Native.Nat.{ℕ, ◌+◌, ◌-◌, ◌≤◌, ◌<◌}
 use native.Mathlib.Decide.{ℕ_discrete}
 use native.Mathlib.Omega.{arith}
-use lib.ListN.{length, get_or}
-use lib.Dec.{eqb, ltb}
-use borrow.Author.Tests.{eq-eqb, ne_eqb, eqb-true, eqb-false, le-ltb, ltb-false, not-true, not-false}
-use Rattle.word.proofs.Test.{and_first, and_second, or-first, or-second}
-use Rattle.section_kind.specs.declared.SectionKind.TheVariants as kind
-use Rattle.section_kind.specs.Kind.{flags_of}
-use Rattle.format.specs.Limit.{data_image_limit}
-use Rattle.refusal.specs.declared.Verdict.{Verdict}
-use Rattle.refusal.specs.declared.Verdict.TheVariants.{Accepted, Refused}
-use Rattle.refusal.specs.declared.Refusal.TheVariants as refusal
-use Rattle.refusal.specs.Order.{◌or_else◌, refuse_if, first_of}
-use Rattle.refusal.proofs.Order.{accepted-first, accepted-rest, accepted-test}
+use lib.ListN.{get_or}
+use lib.Dec.{eqb}
+use borrow.Author.Tests.{eq-eqb, ne_eqb, eqb-true, le-ltb, not-false}
+use Rattle.word.proofs.Test.{and_first, and_second}
+use Rattle.refusal.specs.declared.Verdict.TheVariants.{Accepted}
+use Rattle.refusal.specs.Order.{refuse_if}
+use Rattle.refusal.proofs.Order.{accepted-first, accepted-test}
 use Rattle.section.specs.declared.Section.{Section}
 use Rattle.file_tables.specs.Tables.{blank_section}
 use Rattle.header.specs.declared.Summary.{Summary}
@@ -25,18 +20,16 @@ use Rattle.auxiliary.specs.Auxiliary.{numbers_agree, sizes_agree}
 use Rattle.parts.specs.declared.Part.{Part}
 use Rattle.parts.specs.declared.Parts.{Parts}
 use Rattle.parts.specs.Sections.{flag_at, tally, tally_of, tallies_of, one_each, part_at, parts_of, thread_at, thread_check}
-use Rattle.parts.proofs.Tallied.{tally-few, tally-some, one_known}
+use Rattle.parts.proofs.Tallied.{tally-few, tally-some}
 use Rattle.format.specs.declared.SectionNumber.{SectionNumber}
-use Rattle.refusal.specs.declared.ModuleItem.TheVariants.{NoRawData, EntryOrToc}
-use Rattle.refusal.specs.declared.LimitItem.TheVariants.{DataImage}
-use Rattle.module.proofs.Extent.{bss-after, image-plain, image-bss, parts-image}
+use Rattle.module.proofs.Extent.{bss-after, image-bss, parts-image}
 use Rattle.module.specs.Module.{lacks_data, is_anchor, bss_below, image_length, parts_check}
 use Rattle.history.specs.declared.Followed.{Followed}
 use Rattle.history.specs.declared.Followed.TheVariants as followed
 use Rattle.written.specs.Written.{flag_follows}
 use Rattle.written.specs.Moved.{moved_section, moved_part, moved_parts, moved_aux}
 use Rattle.frame.proofs.Open.{first-same}
-use Rattle.rewritten.proofs.Judge.{tally-same, tally-here, tally-one}
+use Rattle.rewritten.proofs.Judge.{tally-same, tally-here}
 
 -- there is one of each kind
 pub record Ones (y : Summary) : Type 0 where

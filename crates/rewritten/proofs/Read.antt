@@ -1,22 +1,18 @@
 -- What each reader finds in a written file: the first file's bytes, or its own change of them. Assumes nothing.
-use mathlib.Core.Path.{◌≡◌, refl, sym, ◌∙◌, ap, subst}
-use mathlib.Core.Bool.{Bool, true, false, not, cond, ◌&&◌, ◌||◌}
+use mathlib.Core.Path.{◌≡◌, refl, sym, ◌∙◌, subst}
 use mathlib.Core.Logic.{◌⊎◌, inl, inr}
 use mathlib.Core.List.{List, [], ◌∷◌}
-use Prim.Native.Nat.{ℕ, zero, suc, ◌+◌, ◌-◌, ◌*◌, ◌≤◌, ◌<◌}
-use native.Mathlib.Decide.{dec_lt, ℕ_discrete}
+use Prim.Native.Nat.{ℕ, ◌+◌, ◌*◌, ◌≤◌, ◌<◌}
+use native.Mathlib.Decide.{dec_lt}
 use native.Mathlib.Omega.{arith}
-use lib.ListN.{length, get_or, take, drop, get_or-eq_default}
+use lib.ListN.{length, take, drop, get_or-eq_default}
 use lib.Seq.{sets}
-use Rattle.format.specs.declared.Format.{Format}
-use Rattle.format.specs.declared.Format.TheVariants.{Xcoff32, Xcoff64}
 use Rattle.format.specs.declared.FileRange.{FileRange}
-use Rattle.format.specs.Layout.{header_layout, section_layout, aux_layout, symbol_layout, loader_layout, loader_symbol_length, relocation_layout}
+use Rattle.format.specs.Layout.{header_layout, section_layout, aux_layout, loader_layout, loader_symbol_length, relocation_layout}
 use Rattle.format.specs.Range.{range, bytes_of}
 use Rattle.update.proofs.Stores.{part-stored}
 use Rattle.file_header.specs.Header.{section_start}
 use Rattle.header.specs.declared.Summary.{Summary}
-use Rattle.module.specs.declared.Module.{Module}
 use Rattle.module.specs.Inside.{PartInside}
 use Rattle.loader_symbol.specs.Symbol as symbol
 use Rattle.relocation.specs.Relocation as relocation
@@ -26,12 +22,12 @@ use Rattle.history.specs.Images.{Images}
 use Rattle.frame.specs.Same.{Same}
 use Rattle.shared_range.specs.Shared.{Holds, Disjoint}
 use Rattle.frame.specs.Change.{each_from, Local}
-use Rattle.written.specs.Written.{put_section, put_aux, put_symbol, put_entry, put_text, put_data, written_by}
+use Rattle.written.specs.Written.{put_section, put_aux, put_symbol, put_entry, put_text, put_data}
 use Rattle.written.specs.Shared.{part_range, header_range, strings_size}
-use Rattle.frame.proofs.Same.{same_bytes_lem, same-trans, same-sym, same-within}
+use Rattle.frame.proofs.Same.{same_bytes_lem, same-trans, same-sym}
 use Rattle.frame.proofs.Change.{stored-local, local-apart, each_local, each-entry}
 use Rattle.written.proofs.Found.{Within, TablesWithin}
-use Rattle.rewritten.proofs.Stages.{Clear, LoaderClear, symbol_table_range, entry_table_range, loader_header_range, flip, sub, whole, section_range, symbol_range, entry_range, entries-alone, entries-within, section-local, symbol-local, entry-local, aux-local}
+use Rattle.rewritten.proofs.Stages.{Clear, LoaderClear, symbol_table_range, entry_table_range, flip, sub, whole, section_range, symbol_range, entry_range, entries-alone, entries-within, section-local, symbol-local, entry-local, aux-local}
 
 -- bytes stored are read back; none are anywhere
 stored : (start n : ℕ) (vs bs : List ℕ) → length vs ≡ n → (0 < n → start + n ≤ length bs) → Dec (0 < n) → take n (drop start (sets bs start vs)) ≡ vs

@@ -1,45 +1,29 @@
 -- To builds and moves a written file is the first one with the plan's addresses. Assumes nothing.
-use mathlib.Core.Path.{◌≡◌, refl, sym, ◌∙◌, ap, ap₂, subst}
-use mathlib.Core.Bool.{Bool, true, false, not, cond, ◌&&◌, ◌||◌}
-use mathlib.Core.List.{List, [], ◌∷◌, ◌++◌, map}
-use Prim.Native.Nat.{ℕ, zero, suc, ◌+◌, ◌-◌, ◌*◌, ◌≤◌, ◌<◌}
-use native.Mathlib.Decide.{dec_lt, ℕ_discrete}
+use mathlib.Core.Path.{◌≡◌, refl, ◌∙◌, ap, ap₂}
+use mathlib.Core.Bool.{Bool, true, false, cond}
+use mathlib.Core.List.{List, ◌∷◌, ◌++◌, map}
+use Prim.Native.Nat.{ℕ, zero, suc, ◌+◌, ◌-◌, ◌≤◌, ◌<◌}
 use native.Mathlib.Omega.{arith}
-use lib.ListN.{length, get_or, take, drop, replicate, length-drop, length-replicate, length-append, get_or-replicate, take-append-drop}
-use lib.Seq.{ext_get_or, get_or-drop, get_or-append-add}
+use lib.ListN.{replicate}
 use lib.Dec.{eqb}
-use Rattle.word.proofs.Test.{either}
-use Rattle.word.proofs.Number.{length-field}
 use Rattle.format.specs.declared.Format.{Format}
-use Rattle.format.specs.declared.SectionNumber.{SectionNumber}
-use Rattle.format.specs.Layout.{address_limit, loader_symbol_length}
-use Rattle.format.specs.Range.{range, bytes_of}
+use Rattle.format.specs.Layout.{address_limit}
 use Rattle.parts.specs.declared.Parts.{Parts}
 use Rattle.module.specs.declared.Anchor.{Anchor}
-use Rattle.module.specs.declared.Module.{Module}
-use Rattle.loader_symbol.specs.declared.LoaderEntry.{LoaderEntry}
 use Rattle.loader_symbol.specs.Symbol as symbol
-use Rattle.relocation.specs.declared.RelocationEntry.{RelocationEntry}
-use Rattle.relocation.specs.declared.FieldPlace.{FieldPlace}
-use Rattle.relocation.specs.Relocation.{bytes_wide, entry_in, place_at, subtracts}
 use Rattle.loadable.specs.declared.Loadable.{Loadable}
-use Rattle.loadable.specs.declared.LoadableAnswer.TheVariants as answer
-use Rattle.loadable.specs.Loadable.{loadable_at}
 use Rattle.loadable.specs.Valid.{Valid}
 use Rattle.history.specs.declared.Followed.{Followed}
 use Rattle.history.specs.declared.Followed.TheVariants as followed
 use Rattle.history.specs.declared.Relocation.{Relocation}
-use Rattle.history.specs.Images.{Images, images, apply_all, All, InField, image_of, length_of}
-use Rattle.history.specs.Plan.{Relocatable, Plan, Anchored, built_images}
+use Rattle.history.specs.Images.{Images}
+use Rattle.history.specs.Plan.{Relocatable, Plan, built_images}
 use Rattle.history.specs.Plan.Anchored.{none, in_text, in_data}
 use Rattle.written.specs.Written.{anchor_by, anchor_follows}
-use Rattle.plan.specs.Relocatable.{followed_of, followed_in, followed_at, symbols_from, relocation_at, relocations_from, raw_text, raw_data, anchored, relocatable_of, relocatable_by, relocatable_at}
-use Rattle.plan.proofs.Raw.{length-raw-text, length-raw-data}
+use Rattle.plan.specs.Relocatable.{followed_of, followed_in, followed_at, symbols_from, relocation_at, relocations_from, raw_text, raw_data, anchored, relocatable_of}
 use Rattle.rebase.specs.Rebase.{rebased_symbol, rebased_anchor, rebased}
-use Rattle.written.specs.Written.{entry_follows}
-use Rattle.written.specs.Shared.{part_range}
 use Rattle.rebase.specs.Rebase.{new_address}
-use Rattle.written.specs.Moved.{Fresh, moved_parts, moved_module, moved_anchor, moved_entry, moved_relocation}
+use Rattle.written.specs.Moved.{Fresh, moved_parts, moved_module, moved_anchor}
 use Rattle.header.specs.Open.{summary_as}
 use Rattle.rewritten.proofs.Address.{PlanFits, text-new, data-new, import-new}
 use Rattle.written.proofs.Found.{LoadableFound}
@@ -47,7 +31,7 @@ use Rattle.written.proofs.Built.{built-data}
 use Rattle.rewritten.proofs.Read.{text-read, data-read}
 use Rattle.rewritten.proofs.Entries.{followed-moved}
 use Rattle.rewritten.proofs.Opens.{Ready, W}
-use Rattle.rewritten.proofs.Loaded.{symbol-moved, entry-moved, place_kept, written-loadable}
+use Rattle.rewritten.proofs.Loaded.{symbol-moved, entry-moved, place_kept}
 
 -- ---- what builds and moves see
 

@@ -1,9 +1,8 @@
 -- The reports of builds and moves of an accepted module: their offsets depend on no file. Assumes nothing.
-use mathlib.Core.Path.{◌≡◌, refl, sym, ◌∙◌, ap}
+use mathlib.Core.Path.{◌≡◌, refl, sym, ◌∙◌}
 use mathlib.Core.Bool.{Bool, true, false, not}
 use mathlib.Core.List.{List}
 use Prim.Native.Nat.{ℕ, zero, suc, ◌+◌}
-use native.Mathlib.Omega.{arith}
 use lib.Dec.{eqb, ltb}
 use lib.ListN.{length, get_or}
 use Rattle.refusal.specs.declared.PlanItem.{PlanItem}
@@ -14,14 +13,12 @@ use Rattle.refusal.specs.declared.Refusal.{Refusal}
 use Rattle.refusal.specs.declared.Refusal.TheVariants as refusal
 use Rattle.refusal.specs.declared.Verdict.{Verdict}
 use Rattle.refusal.specs.declared.Verdict.TheVariants.{Accepted, Refused}
-use Rattle.refusal.specs.Refusal.{refused_head}
 use Rattle.refusal.specs.Order.{◌or_else◌, refuse_if, by_verdict, first_of}
 use Rattle.offset.specs.declared.StartsAnswer.{StartsAnswer}
 use Rattle.offset.specs.declared.StartsAnswer.TheVariants.{Known, Unknown}
 use Rattle.offset.specs.Offset.{starts_of, offset_by, offset_of}
 use Rattle.history.specs.declared.Followed.{Followed}
 use Rattle.history.specs.declared.Followed.TheVariants as followed
-use Rattle.history.specs.declared.CallAnswer.{CallAnswer}
 use Rattle.history.specs.declared.CallAnswer.TheVariants as answer
 use Rattle.history.specs.Plan.{Relocatable, Plan, limit_of, reached_by, list_room, list_check, fits, address_check, import_check, fit_check, plan_check}
 use Rattle.history.specs.Call.{Call, build, move, plan_reached, buffer_room, room_check, call_check, answer_of}

@@ -1,13 +1,12 @@
 -- The changes that make a written file, each in its own range; and what each leaves alone. Assumes nothing.
-use mathlib.Core.Path.{◌≡◌, refl, sym, ◌∙◌, ap, subst}
-use mathlib.Core.Bool.{Bool, true, false, not, cond, ◌&&◌, ◌||◌}
-use mathlib.Core.List.{List, [], ◌∷◌}
-use Prim.Native.Nat.{ℕ, zero, suc, ◌+◌, ◌-◌, ◌*◌, ◌≤◌, ◌<◌}
+use mathlib.Core.Path.{◌≡◌, refl}
+use mathlib.Core.Bool.{false}
+use mathlib.Core.List.{List}
+use Prim.Native.Nat.{ℕ, suc, ◌+◌, ◌*◌, ◌≤◌, ◌<◌}
 use native.Mathlib.Omega.{arith}
 use native.Mathlib.Nat.{mul-le-mul_right, suc-mul}
 use native.Mathlib.Decide.{dec_lt}
-use lib.ListN.{length, get_or, take, drop}
-use lib.Seq.{sets}
+use lib.ListN.{length}
 use Rattle.word.specs.declared.Field.{Field}
 use Rattle.word.specs.Number.{bytes_in}
 use Rattle.word.proofs.Test.{or-first, or-second}
@@ -22,24 +21,20 @@ use Rattle.parts.specs.Sections.{flag_at}
 use Rattle.module.specs.declared.Module.{Module}
 use Rattle.loader_symbol.specs.Symbol as symbol
 use Rattle.relocation.specs.Relocation as relocation
-use Rattle.loader_header.specs.declared.LoaderTables.{LoaderTables}
 use Rattle.loadable.specs.declared.Loadable.{Loadable}
 use Rattle.history.specs.declared.Followed.{Followed}
 use Rattle.history.specs.declared.Followed.TheVariants as followed
-use Rattle.history.specs.Images.{Images}
 use Rattle.format.proofs.Layouts.{aux-inside}
 use Rattle.written.specs.Written.{put_header, anchor_follows}
 use Rattle.plan.specs.Relocatable.{followed_at}
-use Rattle.frame.specs.Same.{Same}
-use Rattle.shared_range.specs.Shared.{Holds, Disjoint, Separate, shares_two}
-use Rattle.frame.specs.Change.{each_from, Local}
-use Rattle.written.specs.Written.{put_address, flag_follows, entry_follows, put_section, put_aux, put_symbol, put_entry, put_text, put_data, written_by}
-use Rattle.written.specs.Shared.{part_range, header_range, symbols_range, strings_size, file_ranges, loader_ranges, is_shared}
-use Rattle.frame.proofs.Same.{same_bytes_lem, same-trans}
+use Rattle.shared_range.specs.Shared.{Holds, Disjoint, shares_two}
+use Rattle.frame.specs.Change.{Local}
+use Rattle.written.specs.Written.{put_address, flag_follows, entry_follows, put_section, put_aux, put_symbol, put_entry}
+use Rattle.written.specs.Shared.{part_range, header_range, strings_size, file_ranges, loader_ranges, is_shared}
 use Rattle.shared_range.proofs.Shared.{separate}
-use Rattle.frame.proofs.Change.{stored-local, none-local, wider, both-local, local-apart, each_local, each-entry}
+use Rattle.frame.proofs.Change.{wider, both-local}
 use Rattle.rewritten.proofs.Fields.{address-local}
-use Rattle.written.proofs.Found.{Within, TablesWithin}
+use Rattle.written.proofs.Found.{Within}
 
 -- ---- parts that share no byte, by name
 

@@ -1,30 +1,27 @@
 -- Request 8: a module written back for a plan. No premise about the file but that the call is accepted.
-use mathlib.Core.Path.{◌≡◌, refl, sym, ◌∙◌, ap, ap₂, subst}
-use mathlib.Core.Bool.{Bool, true, false, not, cond, ◌&&◌, ◌||◌}
-use mathlib.Core.List.{List, [], ◌∷◌}
-use Prim.Native.Nat.{ℕ, zero, suc, ◌+◌, ◌-◌, ◌*◌, ◌^◌, ◌≤◌, ◌<◌}
+use mathlib.Core.Path.{◌≡◌, refl, sym, ◌∙◌, ap, subst}
+use mathlib.Core.Bool.{true, false, not}
+use mathlib.Core.List.{List}
+use Prim.Native.Nat.{ℕ, ◌+◌, ◌≤◌, ◌<◌}
 use native.Mathlib.Omega.{arith}
 use lib.ListN.{length, get_or, take, get_or-eq_default}
 use native.Mathlib.Decide.{dec_lt}
 use lib.Seq.{length-take-le}
-use lib.Dec.{eqb, ltb}
+use lib.Dec.{ltb}
 use borrow.Author.Tests.{ltb-false, not-false}
-use Rattle.word.proofs.Test.{either}
 use Rattle.format.specs.declared.Format.{Format}
-use Rattle.format.specs.declared.Format.TheVariants.{Xcoff32, Xcoff64}
 use Rattle.format.specs.Layout.{aux_layout, address_limit}
-use Rattle.refusal.specs.declared.Verdict.{Verdict}
-use Rattle.refusal.specs.declared.Verdict.TheVariants.{Accepted, Refused}
-use Rattle.refusal.specs.Order.{◌or_else◌, refuse_if}
+use Rattle.refusal.specs.declared.Verdict.TheVariants.{Accepted}
+use Rattle.refusal.specs.Order.{refuse_if}
 use Rattle.refusal.proofs.Order.{accepted-first, accepted-rest, accepted-test}
 use Rattle.header.specs.declared.Summary.{Summary}
 use Rattle.header.specs.declared.Opened.{Opened}
 use Rattle.header.specs.Open.{open_of}
 use Rattle.parts.specs.declared.Parts.{Parts}
-use Rattle.parts.specs.Sections.{tallies_of, one_each, parts_of, thread_check}
+use Rattle.parts.specs.Sections.{tallies_of, one_each, parts_of}
 use Rattle.module.specs.declared.Anchor.{Anchor}
 use Rattle.module.specs.declared.Module.{Module}
-use Rattle.module.specs.Module.{bss_below, image_length, parts_check, aux_of, module_check, module_with}
+use Rattle.module.specs.Module.{bss_below, image_length, aux_of, module_check, module_with}
 use Rattle.module.proofs.Extent.{parts-image}
 use Rattle.loadable.specs.declared.Loadable.{Loadable}
 use Rattle.loadable.specs.declared.LoadableAnswer.TheVariants as answer
@@ -52,9 +49,9 @@ use Rattle.rebase.specs.Rebase.{new_address}
 use Rattle.written.specs.Moved.{Fresh, moved_module}
 use Rattle.header.specs.Open.{summary_as}
 use Rattle.frame.proofs.Open.{Reads, opened-reads, reads-opened}
-use Rattle.rewritten.proofs.Parts.{Ones, ones, Moves}
+use Rattle.rewritten.proofs.Parts.{ones, Moves}
 use Rattle.rewritten.proofs.Address.{PlanFits, plan-fits, fresh, moves}
-use Rattle.written.proofs.Found.{ModuleFound, module-found, LoadableFound, loadable-found, tables-within}
+use Rattle.written.proofs.Found.{module-found, LoadableFound, loadable-found, tables-within}
 use Rattle.rewritten.proofs.Stages.{clear, loader-clear}
 use Rattle.rewritten.proofs.Read.{w6}
 use Rattle.rewritten.proofs.Opens.{Ready, W, format-of, length-written}

@@ -1,6 +1,7 @@
 // The C interface: every public operation under its C name, with no condition on its arguments.
 // A slice is passed as a pointer and a length. Answers are structs by value; a name is an offset and a length in the file.
 #![tactic(auto)]
+
 ghost use Rattle.std.specs.Prelude.{◌≡◌, length};
 ghost use Rattle.header.specs.Open.{open_report};
 ghost use Rattle.section_lookup.specs.Lookup.{section_report, section_name_at};

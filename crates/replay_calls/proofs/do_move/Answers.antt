@@ -11,4 +11,4 @@ pub imports_at-to_imports-requires : goal.imports_at-to_imports-requires
 imports_at-to_imports-requires c = next-there _ _ _ c.plan_end-next.ensures c.requires.1
 
 pub returns : goal.returns
-returns c = moved-plans _ _ _ _ _ _ _ _ _ _ _ _ _ c.plan_end-next.ensures c.addresses_at-from.ensures c.imports_at-from_imports.ensures c.addresses_at-to.ensures c.imports_at-to_imports.ensures record { cause = c.move_images.ensures.cause; images = c.move_images.ensures.images }
+returns c = let told = moved-plans _ _ _ _ _ _ _ _ _ _ _ _ _ c.plan_end-next.ensures c.addresses_at-from.ensures c.imports_at-from_imports.ensures c.addresses_at-to.ensures c.imports_at-to_imports.ensures (c.move_images.ensures.cause, c.move_images.ensures.images) in record { cause = told.0; images = told.1 }

@@ -33,7 +33,7 @@ pub loop-at-smaller : goal.loop-at-smaller
 loop-at-smaller c = let nz : call_end _ _ ≡ 0 → ⊥ = λ h. c.if-end-eq0.false (c.call_end-end.ensures ∙ h) in let i = call-inside plans c.args.script.now c.loop-at.at nz in let l = call-longer plans plans-forward c.args.script.now c.loop-at.at nz in let e = c.call_end-end.ensures in omega arith
 
 pub loop-at-preserved : goal.loop-at-preserved
-loop-at-preserved c = let v = c.loop-at.invariant in let e = c.call_end-end.ensures in let nz = c.if-end-eq0.false in ( c.answer_call-last.auto.text ∙ v.0, c.answer_call-last.auto.data ∙ v.1, left-next _ _ _ _ _ _ _ _ _ _ _ _ _ _ e nz (c.answer_call-last.ensures.cause, c.answer_call-last.ensures.images) c.accepted_one-accepted.ensures v.2, counted-bounds _ _ _ _ _ _ _ e nz c.accepted_one-accepted.ensures v.3, )
+loop-at-preserved c = let v = c.loop-at.invariant in let e = c.call_end-end.ensures in let nz = c.if-end-eq0.false in (c.answer_call-last.auto.text ∙ v.0, c.answer_call-last.auto.data ∙ v.1, left-next _ _ _ _ _ _ _ _ _ _ _ _ _ _ e nz (c.answer_call-last.ensures.cause, c.answer_call-last.ensures.images) c.accepted_one-accepted.ensures v.2, counted-bounds _ _ _ _ _ _ _ e nz c.accepted_one-accepted.ensures v.3)
 
 pub shape_of-text : goal.shape_of-text
 shape_of-text c = c.loop-at.invariant.0

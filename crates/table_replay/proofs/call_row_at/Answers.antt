@@ -34,4 +34,4 @@ pub overflow_add-at-5 : goal.overflow_add-at-5
 overflow_add-at-5 c = omega (arith, row_inside c.args.s.now c.args.at c.requires.0 c.requires.1, c.name_length-n.ensures)
 
 pub returns : goal.returns
-returns c = let told = made-read c.args.table.now c.args.s.now c.args.at _ _ _ _ _ _ _ (row_inside c.args.s.now c.args.at c.requires.0 c.requires.1) c.name_length-n.ensures c.cut_length-cut.ensures c.read_name-bytes.ensures c.number_at-kind.ensures c.number_at-bench.ensures c.number_at-file_id.ensures c.number_at-address.ensures (c.call_row.ensures.answer, (c.call_row.ensures.table) in record { answer = told.0; table = told.1 }
+returns c = let told = made-read c.args.table.now c.args.s.now c.args.at _ _ _ _ _ _ _ (row_inside c.args.s.now c.args.at c.requires.0 c.requires.1) c.name_length-n.ensures c.cut_length-cut.ensures c.read_name-bytes.ensures c.number_at-kind.ensures c.number_at-bench.ensures c.number_at-file_id.ensures c.number_at-address.ensures (c.call_row.ensures.answer, c.call_row.ensures.table) in record { answer = told.0; table = told.1 }

@@ -28,7 +28,7 @@ pub loop-at-smaller : goal.loop-at-smaller
 loop-at-smaller c = let nz : call_end _ _ ≡ 0 → ⊥ = λ h. c.if-end-eq0.false (c.call_end-end.ensures ∙ h) in let i = call-inside c.args.script.now c.loop-at.at nz in let l = call-longer c.args.script.now c.loop-at.at nz in let e = c.call_end-end.ensures in omega arith
 
 pub loop-at-preserved : goal.loop-at-preserved
-loop-at-preserved c = let v = c.loop-at.invariant in let e = c.call_end-end.ensures in let nz = c.if-end-eq0.false in let m = c.call_at-last in ( m.auto.1.1.1.1.0 ∙ v.0, left-next _ _ _ _ _ _ _ _ _ _ _ _ _ _ _ _ _ m.ensures.1.1.1 e nz v.0 (m.ensures.0, (m.ensures.1.0, m.ensures.1.1.0)) c.accepted_one-accepted.ensures v.1, counted-bounds _ _ _ _ _ _ _ e nz c.accepted_one-accepted.ensures (v.2.0, v.2.1), )
+loop-at-preserved c = let v = c.loop-at.invariant in let e = c.call_end-end.ensures in let nz = c.if-end-eq0.false in let m = c.call_at-last in (m.auto.list ∙ v.0, left-next _ _ _ _ _ _ _ _ _ _ _ _ _ _ _ _ _ m.ensures.whole e nz v.0 (m.ensures.answer, (m.ensures.table, m.ensures.list)) c.accepted_one-accepted.ensures v.1, counted-bounds _ _ _ _ _ _ _ e nz c.accepted_one-accepted.ensures (v.2.0, v.2.1))
 
 pub shape_of-list : goal.shape_of-list
 shape_of-list c = c.loop-at.invariant.0
