@@ -1,0 +1,2 @@
+-- What the lister writes.
+pub mod Listed
