@@ -1,7 +1,7 @@
 /*
  * Builds the text and data images of a module for given addresses and writes them to two files.
  *
- *     cc -Iinclude examples/build_images.c target/staticlib/libxcoff_c.a -o build_images
+ *     cc -Iinclude examples/build_images.c crates/xcoff_c/out/libxcoff_c.a -o build_images
  *     ./build_images FILE TEXT_ADDRESS DATA_ADDRESS TEXT_OUT DATA_OUT
  *
  * Addresses are hexadecimal. Imports keep the addresses that the file records. Status 0 done, 1 refused (the numbers are

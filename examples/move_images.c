@@ -2,7 +2,7 @@
  * Moves the images of a module from one plan sheet to another, but only if they are those of the first: images that are
  * moved twice, or from a plan that they are not for, are wrong without a sign of it, and xcoff_move takes them as they are.
  *
- *     cc -Iinclude examples/move_images.c target/staticlib/libxcoff_c.a -o move_images
+ *     cc -Iinclude examples/move_images.c crates/xcoff_c/out/libxcoff_c.a -o move_images
  *     ./move_images FILE FROM_SHEET TO_SHEET TEXT DATA
  *
  * Exit status: 0 moved; 1 refused, or images that are not those of FROM_SHEET; 2 usage; 3 a file that cannot be read or

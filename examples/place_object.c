@@ -2,7 +2,7 @@
  * Places the sections of an object file without linking it: writes its text and data sections end to end, for an address of
  * each section. In the repository's root:
  *
- *     cc -Iinclude examples/place_object.c target/staticlib/libxcoff_c.a -o place_object
+ *     cc -Iinclude examples/place_object.c crates/xcoff_c/out/libxcoff_c.a -o place_object
  *     ./place_object diag.o card7.image 10000 80000 80400
  */
 #include "xcoff_inline.h"

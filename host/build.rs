@@ -1,5 +1,5 @@
-//! Links the proved library, libxcoff_c.a: from the folder that XCOFF_LIBRARY_DIR names, or else from target/staticlib/ of
-//! the repository, where `rt staticlib xcoff_c` writes it.
+//! Links the proved library, libxcoff_c.a: from the folder that XCOFF_LIBRARY_DIR names, or else from crates/xcoff_c/out/ of
+//! the repository, where `rt lib` in crates/xcoff_c writes it.
 
 use std::path::{Path, PathBuf};
 
@@ -8,12 +8,12 @@ fn main() {
     println!("cargo:rerun-if-env-changed=XCOFF_LIBRARY_DIR");
     let folder = match std::env::var_os("XCOFF_LIBRARY_DIR") {
         Some(folder) => PathBuf::from(folder),
-        None => Path::new(&here).join("../target/staticlib"),
+        None => Path::new(&here).join("../crates/xcoff_c/out"),
     };
     let archive = folder.join("libxcoff_c.a");
     if !archive.is_file() {
         panic!(
-            "{} is not there: run `rt staticlib xcoff_c` first, or name its folder by XCOFF_LIBRARY_DIR",
+            "{} is not there: run `rt lib` in crates/xcoff_c first, or name its folder by XCOFF_LIBRARY_DIR",
             archive.display()
         );
     }

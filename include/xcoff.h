@@ -1,8 +1,8 @@
 /*
- * XCOFF files read by a proved library. `rt staticlib xcoff_c` in the repository's root makes it, as does the first run
- * of ./xcoff; it is for x86-64 and needs memcpy and memset of the C library. A program over it is compiled there by
+ * XCOFF files read by a proved library. `rt lib` in the folder crates/xcoff_c makes it, as does the first run of
+ * ./xcoff; it is for x86-64 and needs memcpy and memset of the C library. In the repository's root a program over it is compiled by
  *
- *     cc -Iinclude PROGRAM.c target/staticlib/libxcoff_c.a -o PROGRAM
+ *     cc -Iinclude PROGRAM.c crates/xcoff_c/out/libxcoff_c.a -o PROGRAM
  *
  * examples/build_images.c, examples/move_images.c and examples/place_object.c are three. xcoff_inline.h has names for the numbers below, plans as
  * structs and tables by rows; xcoff_words.h the words of a refusal. Where all is installed, `pkg-config --cflags --libs

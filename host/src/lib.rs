@@ -4,7 +4,7 @@
 //! asked for, or the [`Refusal`] that the rules give. Names are parts of the caller's own file.
 //!
 //! Another Cargo project uses it by a path, and says by the environment variable `XCOFF_LIBRARY_DIR` in which folder
-//! `libxcoff_c.a` is; without it that is `target/staticlib` of the repository.
+//! `libxcoff_c.a` is; without it that is `crates/xcoff_c/out` of the repository.
 #![deny(unsafe_code)]
 
 mod address_table;

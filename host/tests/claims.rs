@@ -102,6 +102,14 @@ fn edit_label(name: &str) -> Option<(&str, &str)> {
     (is_word(krate) && is_word(label)).then_some((krate, label))
 }
 
+/// What is left to prove at a place of a function, as the prover calls it: `returns-else`. `tests/edits` holds it to what the prover said.
+fn is_goal(name: &str) -> bool {
+    name.starts_with(|c: char| c.is_ascii_lowercase())
+        && name
+            .bytes()
+            .all(|b| b.is_ascii_alphanumeric() || b == b'_' || b == b'-')
+}
+
 fn is_path(name: &str) -> bool {
     let tops = [
         "crates/",
@@ -208,6 +216,9 @@ fn wrong_name(column: &str, name: &str) -> Option<String> {
             "Function" | "Edit" | "Edits" => Some("no function or edit".into()),
             _ => (specs == proofs).then(|| "not in exactly one of specs and proofs".into()),
         };
+    }
+    if column == "Refused at" && is_goal(name) {
+        return None;
     }
     if edit_label(name).is_some() {
         let placed = ["Definition", "Theorem", "Function"].contains(&column);
@@ -353,7 +364,7 @@ fn exports() -> BTreeSet<String> {
     let text = source("xcoff_c").unwrap();
     let after = text.lines().zip(text.lines().skip(1));
     let found: BTreeSet<String> = after
-        .filter(|(line, _)| *line == "#[no_mangle]")
+        .filter(|(line, _)| *line == "#[unsafe(no_mangle)]")
         .map(|(_, next)| format!("xcoff_c::{}", coded(next).unwrap()))
         .collect();
     assert!(!found.is_empty());
@@ -387,6 +398,7 @@ fn below(krate: &str) -> BTreeSet<String> {
     let lines: BTreeMap<&str, &str> = text
         .lines()
         .filter_map(|line| line.split_once(':'))
+        .map(|(head, list)| (head.split_whitespace().next().unwrap_or(""), list))
         .collect();
     let mut found = BTreeSet::from(["xcoff_c".to_string()]);
     let mut open = vec![krate];

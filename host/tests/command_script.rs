@@ -19,7 +19,13 @@ impl Repository {
         let root = std::env::temp_dir().join(format!("xcoff-script-{}-{name}", std::process::id()));
         let one = ONE.lock().unwrap_or_else(PoisonError::into_inner);
         let new = Repository(root, one);
-        for folder in ["crates/word/src", "host/src", "tools", "elsewhere"] {
+        for folder in [
+            "crates/word/src",
+            "crates/xcoff_c/src",
+            "host/src",
+            "tools",
+            "elsewhere",
+        ] {
             fs::create_dir_all(new.path(folder)).unwrap();
         }
         let sources = [
@@ -35,20 +41,19 @@ impl Repository {
         }
         fs::write(
             new.path("crates.txt"),
-            "# crates\nword:\nxcoff_c: word text # the library\ntext:\n",
+            "# crates\nword:\nxcoff_c staticlib: word text # the library\ntext:\nlister: text\n",
         )
         .unwrap();
         let script = Path::new(env!("CARGO_MANIFEST_DIR")).join("../xcoff");
         fs::copy(script, new.path("xcoff")).unwrap();
         for tool in
-            "bash cat cc dirname env find flock mkdir mktemp mv readlink rm touch".split(' ')
+            "awk bash cat cc dirname env find flock mkdir mktemp mv readlink rm touch wc".split(' ')
         {
             new.link(tool);
         }
-        new.tool(
-            "rt",
-            "mkdir -p target/staticlib && echo lib >target/staticlib/libxcoff_c.a",
-        );
+        // One core, so that no memory is too small for as many crates at once.
+        new.tool("nproc", "echo 1");
+        new.tool("rt", LIBRARY);
         new.tool(
             "cargo",
             "mkdir -p target/cargo/release && printf '#!%s\\necho \"$PWD: $*\"; exit 7\\n' \"$BASH\" \
@@ -72,14 +77,15 @@ impl Repository {
         symlink(found, self.path("tools").join(tool)).unwrap();
     }
 
-    /// A tool that notes its call and does this in the root.
+    /// A tool that notes its call, but for nproc, and does this where it is called.
     fn tool(&self, name: &str, action: &str) {
         let path = self.path("tools").join(name);
         let log = self.path("log");
-        let text = format!(
-            "#!/usr/bin/env bash\necho \"{name} $*\" >>'{}'\n{action}\n",
-            log.display()
-        );
+        let call = match name {
+            "nproc" => String::new(),
+            _ => format!("echo \"{name} $*\" >>'{}'", log.display()),
+        };
+        let text = format!("#!/usr/bin/env bash\n{call}\n{action}\n");
         fs::write(&path, text).unwrap();
         fs::set_permissions(&path, Permissions::from_mode(0o755)).unwrap();
     }
@@ -119,10 +125,14 @@ impl Drop for Repository {
     }
 }
 
+/// What rt lib makes, in the crate's folder.
+const LIBRARY: &str = "[ $1 != lib ] || { mkdir -p out && echo lib >out/libxcoff_c.a; }";
 const PROVING: &str =
-    "xcoff: proving and building the library (rt staticlib xcoff_c); this takes some minutes\n";
+    "xcoff: proving and building the library (rt lib in crates/xcoff_c); this takes some minutes\n";
 const BUILDING: &str = "xcoff: building the command\n";
-const RT: &str = "rt check word text\nrt staticlib xcoff_c\n";
+const RT: &str = "rt lib\nrt lib\n";
+/// The same where nothing is kept of the crate that all others stand on.
+const RT_ANEW: &str = "rt lib\nrt all check --jobs 1\nrt lib\n";
 const CARGO: &str = "cargo build --quiet --release --offline --locked --manifest-path host/Cargo.toml --target-dir target/cargo --bin xcoff\n";
 
 #[test]
@@ -173,10 +183,10 @@ fn terminal() -> (fs::File, fs::File) {
 #[test]
 fn on_a_terminal_a_line_says_which_crate_of_how_many_is_proved() {
     let repository = Repository::new("terminal");
-    let library = "mkdir -p target/staticlib && echo lib >target/staticlib/libxcoff_c.a";
-    let proved = "for crate in word text; do echo \"rt: $crate proved (1 s)\"; echo more; done";
-    let last = "[ $1 != staticlib ] || echo 'rt: xcoff_c proved (unchanged)'";
-    repository.tool("rt", &format!("{library}\n{proved}\n{last}"));
+    let lib = "[ $1 != lib ] || { echo \"rt: chose --jobs 2 for ${PWD##*/}\"; echo logic=proved; }";
+    let proved = "for crate in word text lister xcoff_c; do echo \"== $crate\"; echo more; done";
+    let all = format!("[ $1 != all ] || {{ {proved}; echo '== summary'; echo 'word: ok'; }}");
+    repository.tool("rt", &format!("{LIBRARY}\n{lib}\n{all}"));
     let (reader, writer) = terminal();
     let mut command = Command::new(repository.path("xcoff"));
     command
@@ -193,6 +203,19 @@ fn on_a_terminal_a_line_says_which_crate_of_how_many_is_proved() {
                     \r\x1b[Kxcoff: 2 of 3 crates proved: text\
                     \r\x1b[Kxcoff: 3 of 3 crates proved: xcoff_c\n";
     assert_eq!(said, [PROVING, progress, BUILDING].concat());
+    let called = fs::read_to_string(repository.path("log")).unwrap();
+    assert_eq!(called, [RT_ANEW, CARGO].concat());
+}
+
+#[test]
+fn what_rt_kept_is_taken() {
+    let repository = Repository::new("kept");
+    let kept = "echo \"rt: ${PWD##*/}: begins with what a check kept in /elsewhere\"";
+    for proved in ["", "; echo logic=proved"] {
+        repository.tool("rt", &format!("{LIBRARY}\n{kept}{proved}"));
+        repository.change("crates.txt");
+        assert_eq!(repository.run(&[]).3, [RT, CARGO].concat());
+    }
 }
 
 #[test]
@@ -236,7 +259,7 @@ fn what_is_out_of_date_is_built_again() {
         assert_eq!((err, called), command, "{source}");
     }
     // A library that someone else built.
-    repository.change("target/staticlib/libxcoff_c.a");
+    repository.change("crates/xcoff_c/out/libxcoff_c.a");
     assert_eq!(repository.run(&[]).3, CARGO);
     assert_eq!(repository.run(&[]).3, "");
 }
@@ -284,13 +307,10 @@ fn a_failed_build_is_shown_and_tried_again() {
         let expected = format!("{PROVING}not proved\nxcoff: the library is not built\n");
         assert_eq!(
             (status, out.as_str(), err, called.as_str()),
-            (3, "", expected, "rt check word text\n")
+            (3, "", expected, "rt lib\n")
         );
     }
-    repository.tool(
-        "rt",
-        "mkdir -p target/staticlib && echo lib >target/staticlib/libxcoff_c.a",
-    );
+    repository.tool("rt", LIBRARY);
     repository.tool("cargo", "echo 'no compiler'; exit 101");
     let (status, _, err, _) = repository.run(&[]);
     let expected = format!("{PROVING}{BUILDING}no compiler\nxcoff: the command is not built\n");
