@@ -5,6 +5,7 @@ mod command_runner;
 use command_runner::{real, sheet, without_room, Folder, Ran};
 use std::ffi::OsStr;
 use std::fs::{self, File, Permissions};
+use std::io::Read;
 use std::os::fd::OwnedFd;
 use std::os::unix::ffi::OsStrExt;
 use std::os::unix::fs::{chown, symlink, MetadataExt, PermissionsExt};
@@ -757,8 +758,10 @@ fn a_full_disk_or_closed_pipe_under_a_listing_is_3() {
         let text = "xcoff: cannot write standard output: No space left on device\n";
         assert_eq!((ran.status, ran.err.as_str()), (Some(3), text), "{args:?}");
 
-        let (ours, theirs) = UnixStream::pair().unwrap();
+        let (ours, mut theirs) = UnixStream::pair().unwrap();
         drop(ours);
+        // A process that another test is starting may hold our end until it runs its program; the input ends when none does.
+        assert_eq!(theirs.read(&mut [0]).unwrap(), 0);
         let ran = Ran::of(
             folder
                 .command(args)
