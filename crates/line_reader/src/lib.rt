@@ -48,7 +48,7 @@ pub fn step<'a>(r: LineReader<'a>, f: Format) -> LineReader<'a>
     }
 }
 
-// One pass over a table of `count` entries at `at`: one reader, which steps from entry to entry. Whoever calls this needs no walk.
+// One pass over a table of `count` entries at `at`: one reader, which steps from entry to entry.
 pub fn pass(file: &[u8], at: usize, count: usize, f: Format, address: u64) -> LineSearch
     requires { at + count * line_length f ≤ length file.now }
     ensures { result ≡ seen_to (entry_of file.now at f) address count }
