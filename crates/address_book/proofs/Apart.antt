@@ -1,20 +1,20 @@
 -- Request 6: a bench's answers depend on its own rows alone, and an addition's further on how many rows are taken. Assumes nothing.
 use mathlib.Core.Path.{◌≡◌, refl, sym, ◌∙◌, ap}
-use mathlib.Core.Bool.{Bool, true, false, cond, ◌&&◌}
+use mathlib.Core.Bool.{false}
 use mathlib.Core.List.{List, [], ◌∷◌}
-use Prim.Native.Nat.{ℕ, suc, ◌<◌}
+use Prim.Native.Nat.{ℕ, ◌<◌}
 use native.Mathlib.Omega.{arith}
 use lib.Dec.{eqb}
 use lib.ListN.{length}
-use borrow.Author.Tests.{eqb-true, eq-eqb, ne_eqb}
-use Rattle.refusal.specs.declared.Verdict.{Verdict}
-use Rattle.refusal.specs.declared.Verdict.TheVariants.{Accepted, Refused}
+use borrow.Author.Tests.{eqb-true, ne_eqb}
 use Rattle.refusal.specs.Order.{if_accepted}
-use Rattle.address_book.specs.Book.{Key, Row, key, Book, find, put, delete, own}
-use Rattle.address_book.specs.Call.{Place, imported, other, Call, add, remove, look, fill, count, list, Answer, row_limit, bench_of, call_check, address_at, filled, value_in, written_in, number_in, memory_in, answer_in, applied, after_in, answer_of, after}
+use Rattle.address_book.specs.Book.{key, Book, own}
+use Rattle.address_book.specs.Call.{Place, imported, other, Call, add, remove, look, fill, count, list, row_limit, bench_of, call_check, address_at, filled, value_in, written_in, number_in, memory_in, answer_in, applied, after_in, answer_of, after}
 use Rattle.address_book.specs.Run.{run, answers, pick, calls_by, seen, Seen, seen_by, own_answers, own_run, NeverFull}
 use Rattle.address_book.proofs.Order.{cases}
 use Rattle.address_book.proofs.Laws.{Ordered, find-own, own-own, own_put, put_other, own-delete, delete-other, ordered-put, ordered-delete}
+use Rattle.std.specs.Prelude.{Err, Ok}
+use Rattle.refusal.specs.Verdict.{Verdict}
 
 -- ---- one call
 
@@ -79,12 +79,12 @@ other-applied n b (count m) h = refl
 other-applied n b (list m given) h = refl
 
 by-check : (n : ℕ) (v : Verdict) (x b y : Book) → own n x ≡ y → own n (if_accepted v x b) ≡ if_accepted v y (own n b)
-by-check n Accepted x b y e = e
-by-check n (Refused r) x b y e = refl
+by-check n (Ok tt) x b y e = e
+by-check n (Err r) x b y e = refl
 
 by-none : (n : ℕ) (v : Verdict) (x b : Book) → own n x ≡ own n b → own n (if_accepted v x b) ≡ own n b
-by-none n Accepted x b e = e
-by-none n (Refused r) x b e = refl
+by-none n (Ok tt) x b e = e
+by-none n (Err r) x b e = refl
 
 pub after-own : (taken : ℕ) (b : Book) (c : Call) → Ordered b → own (bench_of c) (after_in taken b c) ≡ after_in (seen taken c) (own (bench_of c) b) c
 unfolding after_in
@@ -108,8 +108,8 @@ ordered-applied b (count n) o = o
 ordered-applied b (list n given) o = o
 
 kept : (v : Verdict) (x b : Book) → Ordered x → Ordered b → Ordered (if_accepted v x b)
-kept Accepted x b h k = h
-kept (Refused r) x b h k = k
+kept (Ok tt) x b h k = h
+kept (Err r) x b h k = k
 
 pub ordered-after : (b : Book) (c : Call) → Ordered b → Ordered (after b c)
 unfolding after_in

@@ -2,24 +2,24 @@
 use mathlib.Core.Path.{◌≡◌, refl, sym, ◌∙◌, ap}
 use mathlib.Core.Bool.{Bool, true, false, cond, ◌&&◌}
 use mathlib.Core.List.{List, [], ◌∷◌}
-use Prim.Native.Nat.{ℕ, suc, ◌+◌, ◌-◌, ◌≤◌, ◌<◌}
+use Prim.Native.Nat.{ℕ, suc, ◌≤◌}
 use native.Mathlib.Omega.{arith}
 use lib.Dec.{eqb}
 use lib.ListN.{length}
 use borrow.Author.Tests.{eqb-true, eqb-false, eq-eqb, ne_eqb}
 use Rattle.word.proofs.Test.{and_first, and_second}
 use Rattle.refusal.specs.declared.Refusal.{Refusal}
-use Rattle.refusal.specs.declared.Verdict.{Verdict}
-use Rattle.refusal.specs.declared.Verdict.TheVariants.{Accepted, Refused}
 use Rattle.refusal.specs.declared.Refusal.TheVariants as refusal
-use Rattle.refusal.specs.Order.{◌or_else◌, refuse_if, if_accepted}
+use Rattle.refusal.specs.Order.{refuse_if, if_accepted}
 use Rattle.refusal.proofs.Order.{accepted-rest, accepted-test}
-use Rattle.address_book.specs.Book.{Key, Row, row, Book, Entry, none, at, same_key, key_before, find, put, delete}
+use Rattle.address_book.specs.Book.{Key, Book, Entry, none, at, same_key, key_before, find, put, delete}
 use Rattle.address_book.specs.Call.{Call, add, remove, look, fill, count, list, is_none, row_limit, key_check, call_check, check_of, applied, after_in, after}
 use Rattle.address_book.specs.Run.{run}
 use Rattle.address_book.proofs.Order.{cases, same_key_lem, same-key-sym, before-other, behind, before-not-before}
 use Rattle.address_book.proofs.Laws.{Ordered, From}
 use Rattle.address_book.proofs.Apart.{ordered-after}
+use Rattle.std.specs.Prelude.{Err, Ok}
+use Rattle.refusal.specs.Verdict.{Verdict}
 
 -- ---- what is found after a change, and how many rows there are
 
@@ -74,11 +74,11 @@ length-delete k (r ∷ rs) h =
 -- ---- never more than 512
 
 -- the row of an accepted removal is there
-pub present : (k : Key) (taken : ℕ) (b : Book) → call_check taken b (remove k) ≡ Accepted → is_none (find b k) ≡ false
+pub present : (k : Key) (taken : ℕ) (b : Book) → call_check taken b (remove k) ≡ Ok tt → is_none (find b k) ≡ false
 unfolding call_check
 present k taken b e = accepted-test (is_none (find b k)) refusal.Absent (accepted-rest (key_check k) (refuse_if (is_none (find b k)) refusal.Absent) e)
 
-few-applied : (b : Book) (c : Call) → Ordered b → length b ≤ row_limit → check_of b c ≡ Accepted → length (applied c b) ≤ row_limit
+few-applied : (b : Book) (c : Call) → Ordered b → length b ≤ row_limit → check_of b c ≡ Ok tt → length (applied c b) ≤ row_limit
 unfolding applied call_check
 few-applied b (add k a) o h e =
     let open_row = accepted-test (is_none (find b k) && eqb (length b) row_limit) refusal.Full (accepted-rest (key_check k) (refuse_if (is_none (find b k) && eqb (length b) row_limit) refusal.Full) e) in
@@ -92,9 +92,9 @@ few-applied b (fill n m given) o h e = h
 few-applied b (count n) o h e = h
 few-applied b (list n given) o h e = h
 
-few-kept : (v : Verdict) (x b : Book) → (v ≡ Accepted → length x ≤ row_limit) → length b ≤ row_limit → length (if_accepted v x b) ≤ row_limit
-few-kept Accepted x b h k = h refl
-few-kept (Refused r) x b h k = k
+few-kept : (v : Verdict) (x b : Book) → (v ≡ Ok tt → length x ≤ row_limit) → length b ≤ row_limit → length (if_accepted v x b) ≤ row_limit
+few-kept (Ok tt) x b h k = h refl
+few-kept (Err r) x b h k = k
 
 pub few-after : (b : Book) (c : Call) → Ordered b → length b ≤ row_limit → length (after b c) ≤ row_limit
 unfolding after_in
@@ -108,12 +108,12 @@ few-rows (c ∷ cs) b o h = few-rows cs (after b c) (ordered-after b c o) (few-a
 -- ---- FULL
 
 -- exactly where 512 rows are taken and the row is new, for a bench and a name that are taken
-pub full-where : (k : Key) (a taken : ℕ) (b : Book) → key_check k ≡ Accepted → find b k ≡ none → taken ≡ row_limit → call_check taken b (add k a) ≡ Refused refusal.Full
+pub full-where : (k : Key) (a taken : ℕ) (b : Book) → key_check k ≡ Ok tt → find b k ≡ none → taken ≡ row_limit → call_check taken b (add k a) ≡ Err refusal.Full
 unfolding call_check
 full-where k a taken b v e h = rw (v, e, eq-eqb taken row_limit h) refl
 
 -- a test that refuses for this cause holds
-refused-test : (t : Bool) → refuse_if t refusal.Full ≡ Refused refusal.Full → t ≡ true
+refused-test : (t : Bool) → refuse_if t refusal.Full ≡ Err refusal.Full → t ≡ true
 refused-test true e = refl
 refused-test false e = cc
 
@@ -121,7 +121,7 @@ entry-none : (e : Entry) → is_none e ≡ true → e ≡ none
 entry-none none h = refl
 entry-none (at a) h = cc
 
-pub full-only : (k : Key) (a taken : ℕ) (b : Book) → key_check k ≡ Accepted → call_check taken b (add k a) ≡ Refused refusal.Full → (find b k ≡ none) × (taken ≡ row_limit)
+pub full-only : (k : Key) (a taken : ℕ) (b : Book) → key_check k ≡ Ok tt → call_check taken b (add k a) ≡ Err refusal.Full → (find b k ≡ none) × (taken ≡ row_limit)
 unfolding call_check
 full-only k a taken b v e =
     let both : (is_none (find b k) && eqb taken row_limit) ≡ true = refused-test (is_none (find b k) && eqb taken row_limit) (rw v at e) in
@@ -130,7 +130,7 @@ full-only k a taken b v e =
 -- ---- a removed row is used again
 
 -- after an accepted removal an addition of any good key is accepted
-pub used-again : (b : Book) (k l : Key) (a : ℕ) → length b ≤ row_limit → check_of b (remove k) ≡ Accepted → key_check l ≡ Accepted → check_of (after b (remove k)) (add l a) ≡ Accepted
+pub used-again : (b : Book) (k l : Key) (a : ℕ) → length b ≤ row_limit → check_of b (remove k) ≡ Ok tt → key_check l ≡ Ok tt → check_of (after b (remove k)) (add l a) ≡ Ok tt
 unfolding call_check after_in applied
 used-again b k l a h e v =
     let there = length-delete k b (present k (length b) b e) in
@@ -140,6 +140,6 @@ used-again b k l a h e v =
 -- ---- the order of refusals
 
 -- INDEX and LONG come before FULL and ABSENT, whatever the rows are
-pub key-first : (k : Key) (a taken : ℕ) (b : Book) (x : Refusal) → key_check k ≡ Refused x → (call_check taken b (add k a) ≡ Refused x) × (call_check taken b (remove k) ≡ Refused x) × (call_check taken b (look k) ≡ Refused x)
+pub key-first : (k : Key) (a taken : ℕ) (b : Book) (x : Refusal) → key_check k ≡ Err x → (call_check taken b (add k a) ≡ Err x) × (call_check taken b (remove k) ≡ Err x) × (call_check taken b (look k) ≡ Err x)
 unfolding call_check
 key-first k a taken b x e = (rw e refl, rw e refl, rw e refl)

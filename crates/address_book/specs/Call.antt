@@ -1,18 +1,16 @@
 -- Calls on the address table: what each answers, and the book that it leaves.
-use Rattle.std.specs.Prelude.{Bool, true, false, not, cond, ◌&&◌, ◌||◌, List, [], ◌∷◌, ◌++◌, ℕ, ◌-◌, ◌*◌, eqb, ltb, length, replicate}
-use Rattle.refusal.specs.declared.Head.{Head}
+use Rattle.std.specs.Prelude.{Bool, true, false, not, ◌&&◌, ◌||◌, List, [], ◌∷◌, ◌++◌, ℕ, ◌-◌, ◌*◌, eqb, ltb, length, replicate, Err, Ok, Result}
 use Rattle.refusal.specs.declared.IndexItem.TheVariants.{NoBench}
 use Rattle.refusal.specs.declared.RoomItem.TheVariants.{AddressList}
 use Rattle.refusal.specs.declared.Refusal.TheVariants as refusal
-use Rattle.refusal.specs.declared.Verdict.{Verdict}
 use Rattle.refusal.specs.Order.{◌or_else◌, refuse_if, by_verdict, if_accepted}
 use Rattle.refusal.specs.Refusal.{accepted_head, refused_head}
 use Rattle.rows.specs.Rows.{room_check}
 use Rattle.sheet.specs.Sheet.{numbers_from}
-use Rattle.address_book.specs.declared.NumberAnswer.{NumberAnswer}
-use Rattle.address_book.specs.declared.NumberAnswer.TheVariants.{Found, Refused}
 use Rattle.address_book.specs.declared.NumberReport.{NumberReport}
 use Rattle.address_book.specs.Book.{Key, Row, key, Book, Entry, none, at, find, put, delete, own}
+use Rattle.refusal.specs.declared.Refusal.{Refusal}
+use Rattle.refusal.specs.Verdict.{Verdict}
 
 -- how many rows the two benches share
 abbrev pub row_limit : ℕ
@@ -128,8 +126,8 @@ value_in b (fill n m given) = 0
 value_in b (count n) = length (own n b)
 value_in b (list n given) = 0
 
-unfoldable pub number_in : ℕ → Book → Call → NumberAnswer
-number_in taken b c = by_verdict (call_check taken b c) (Found (value_in b c)) Refused
+unfoldable pub number_in : ℕ → Book → Call → Result ℕ Refusal
+number_in taken b c = by_verdict (call_check taken b c) (Ok (value_in b c)) Err
 
 -- lent memory is left as it is where a call is refused
 unfoldable pub memory_in : ℕ → Book → Call → List ℕ → List ℕ
@@ -137,7 +135,7 @@ memory_in taken b c before = if_accepted (call_check taken b c) (written_in b c)
 
 -- all that a call answers: its refusal or its number, and what it writes
 pub record Answer : Type 0 where
-  pub told : NumberAnswer
+  pub told : Result ℕ Refusal
   pub written : List ℕ
 
 unfoldable pub answer_in : ℕ → Book → Call → Answer
@@ -160,7 +158,7 @@ after_in taken b c = if_accepted (call_check taken b c) (applied c b) b
 abbrev pub check_of : Book → Call → Verdict
 check_of b c = call_check (length b) b c
 
-abbrev pub number_of : Book → Call → NumberAnswer
+abbrev pub number_of : Book → Call → Result ℕ Refusal
 number_of b c = number_in (length b) b c
 
 abbrev pub answer_of : Book → Call → Answer
@@ -170,6 +168,6 @@ abbrev pub after : Book → Call → Book
 after b c = after_in (length b) b c
 
 -- the answer in the paper's numbers; there is no file, and the offset is 0
-abbrev pub report_of_number : NumberAnswer → NumberReport
-report_of_number (Found v) = record { head = accepted_head; value = v }
-report_of_number (Refused x) = record { head = refused_head x 0; value = 0 }
+abbrev pub report_of_number : Result ℕ Refusal → NumberReport
+report_of_number (Ok v) = record { head = accepted_head; value = v }
+report_of_number (Err x) = record { head = refused_head x 0; value = 0 }

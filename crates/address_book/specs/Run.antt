@@ -1,5 +1,5 @@
 -- Lists of calls, each on the book that the last one left.
-use Rattle.std.specs.Prelude.{Bool, cond, List, [], ◌∷◌, ℕ, ◌<◌, eqb, length}
+use Rattle.std.specs.Prelude.{cond, List, [], ◌∷◌, ℕ, ◌<◌, eqb, length}
 use Rattle.address_book.specs.Book.{Book}
 use Rattle.address_book.specs.Call.{Call, add, remove, look, fill, count, list, Answer, row_limit, bench_of, answer_in, after_in, answer_of, after}
 

@@ -6,14 +6,7 @@ ghost use Rattle.std.specs.Prelude.{◌≡◌, ◌||◌, eqb};
 ghost use Rattle.address_book.specs.Book.{key};
 ghost use Rattle.address_book.specs.Call.{bench_check, key_check, report_of_number};
 
-use refusal::{Head, IndexItem, Refusal, Verdict};
-
-// What is found, an address or how many rows a bench has.
-#[derive(Clone, Copy)]
-pub enum NumberAnswer {
-    Found(u64),
-    Refused(Refusal),
-}
+use refusal::{Head, IndexItem, Refusal};
 
 #[repr(C)]
 #[derive(Clone, Copy)]
@@ -32,41 +25,38 @@ fn is_bench(b: u64) -> bool
 }
 
 // INDEX.
-pub fn check_bench(bench: u64) -> Verdict
+pub fn check_bench(bench: u64) -> Result<(), Refusal>
     ensures { result ≡ bench_check bench }
 {
     if is_bench(bench) {
-        return Verdict::Accepted;
+        return Ok(());
     }
-    Verdict::Refused(Refusal::Index(IndexItem::NoBench(bench)))
+    Err(Refusal::Index(IndexItem::NoBench(bench)))
 }
 
 // INDEX, LONG.
-pub fn check_key(bench: u64, file_id: u64, name: &[u8]) -> Verdict
+pub fn check_key(bench: u64, file_id: u64, name: &[u8]) -> Result<(), Refusal>
     ensures { result ≡ key_check (key bench file_id name.now) }
 {
-    let v = check_bench(bench);
-    if refusal::refuses(v) {
-        return v;
-    }
+    check_bench(bench)?;
     if name.len() == 0 {
-        return Verdict::Refused(Refusal::Long);
+        return Err(Refusal::Long);
     }
     if 32 < name.len() {
-        return Verdict::Refused(Refusal::Long);
+        return Err(Refusal::Long);
     }
-    Verdict::Accepted
+    Ok(())
 }
 
-pub fn report_number(a: NumberAnswer) -> NumberReport
+pub fn report_number(a: Result<u64, Refusal>) -> NumberReport
     ensures { result ≡ report_of_number a }
 {
     match a {
-        NumberAnswer::Found(value) => NumberReport {
+        Ok(value) => NumberReport {
             head: refusal::accepted_head(),
             value,
         },
-        NumberAnswer::Refused(x) => NumberReport {
+        Err(x) => NumberReport {
             head: refusal::refused_head(x, 0),
             value: 0,
         },

@@ -16,8 +16,6 @@ use Rattle.format.specs.declared.Format.{Format}
 use Rattle.refusal.specs.declared.Refusal.{Refusal}
 use Rattle.refusal.specs.declared.Refusal.TheVariants as refusal
 use Rattle.refusal.specs.declared.RoomItem.TheVariants.{AddressList}
-use Rattle.refusal.specs.declared.Verdict.{Verdict}
-use Rattle.refusal.specs.declared.Verdict.TheVariants.{Accepted, Refused}
 use Rattle.refusal.specs.Refusal.{is_refused}
 use Rattle.refusal.specs.Order.{refuse_if, if_accepted}
 use Rattle.refusal.proofs.Order.{go_on, stop}
@@ -26,17 +24,17 @@ use Rattle.loader_symbol.specs.declared.LoaderEntry.{LoaderEntry}
 use Rattle.loader_symbol.specs.Symbol.{entry_at, name_in}
 use Rattle.format.specs.Layout.{loader_symbol_length}
 use Rattle.format.specs.declared.NameField.{NameField}
-use Rattle.refusal.specs.declared.RangeAnswer.{RangeAnswer}
 use Rattle.refusal.specs.Part.{range_bytes, Within}
 use Rattle.lookup.proofs.Symbols.{name-in-file}
 use Rattle.loadable.specs.declared.Loadable.{Loadable}
-use Rattle.loadable.specs.declared.LoadableAnswer.TheVariants as loadable
 use Rattle.loadable.specs.Loadable.{loadable_at}
 use Rattle.loadable.specs.Valid.{Valid}
 use Rattle.offset.specs.Report.{report_head}
 use Rattle.address_book.specs.Book.{Book}
 use Rattle.address_book.specs.Call.{Place, imported, fill, bench_check, call_check, check_of, address_at, filled, written_in, memory_in}
 use Rattle.address_fill.specs.Fill.{place_by, place_in, places_from, places_of, places_by, places_at, Inside}
+use Rattle.std.specs.Prelude.{Err, Ok, Result}
+use Rattle.refusal.specs.Verdict.{Verdict}
 
 -- ---- one place
 
@@ -62,13 +60,13 @@ module _ (rows : Book) (n : ℕ) (file : List ℕ) (f : Format) (symbols : FileO
   unfolding place_in
   no-file h i = deferred rows n (entry_at f (symbols.0 + k * loader_symbol_length) file) _ (rw q at h) (rw q at i)
 
-  pub an-import : {a : RangeAnswer} {part : List ℕ} {r : ℕ} → e.smtype / 64 % 2 ≡ 1 → (e.ifile ≡ 0 → ⊥) → a ≡ name_in file strings (symbols.0 + k * loader_symbol_length) (k + 3) e.name → part ≡ range_bytes file a → r ≡ address_at rows n (imported e.ifile part e.value) → r ≡ address_at rows n (place_in file f symbols strings k)
+  pub an-import : {a : Result FileRange Refusal} {part : List ℕ} {r : ℕ} → e.smtype / 64 % 2 ≡ 1 → (e.ifile ≡ 0 → ⊥) → a ≡ name_in file strings (symbols.0 + k * loader_symbol_length) (k + 3) e.name → part ≡ range_bytes file a → r ≡ address_at rows n (imported e.ifile part e.value) → r ≡ address_at rows n (place_in file f symbols strings k)
   unfolding place_in
   an-import h i p w z =
       z
       ∙ rw (w, p, q) (by_row rows n (entry_at f (symbols.0 + k * loader_symbol_length) file) _ (rw q at h) (rw q at i))
 
-pub name-inside : (file : List ℕ) (f : Format) (symbols : FileOffset) (strings : FileRange) (k : ℕ) (n : NameField) {a : RangeAnswer} → Inside file symbols strings (k + 1) → a ≡ name_in file strings (symbols.0 + k * loader_symbol_length) (k + 3) n → Within (length file) a
+pub name-inside : (file : List ℕ) (f : Format) (symbols : FileOffset) (strings : FileRange) (k : ℕ) (n : NameField) {a : Result FileRange Refusal} → Inside file symbols strings (k + 1) → a ≡ name_in file strings (symbols.0 + k * loader_symbol_length) (k + 3) n → Within (length file) a
 name-inside file f symbols strings k n h e =
     let t = h.table in
     rw e (name-in-file file strings (symbols.0 + k * loader_symbol_length) (k + 3) n h.names (omega arith))
@@ -103,25 +101,25 @@ count-places : (file : List ℕ) (l : Loadable) → length (places_of file l) �
 unfolding places_of
 count-places file l = length-places file l.layout.format l.tables.symbols l.tables.strings 0 l.tables.nsyms
 
-places-found : (file : List ℕ) (l : Loadable) → loadable_at file ≡ loadable.Found l → places_of file l ≡ (places_at file).places
+places-found : (file : List ℕ) (l : Loadable) → loadable_at file ≡ Ok l → places_of file l ≡ (places_at file).places
 unfolding places_at places_by
 places-found file l e = rw e refl
 
 -- a refused verdict leaves the list
 left : (x y : List ℕ) (v : Verdict) → is_refused v ≡ true → y ≡ if_accepted v x y
-left x y Accepted h = let z : ◌≡◌ {A = ℕ} 0 1 = cc in absurd (omega arith)
-left x y (Refused r) h = refl
+left x y (Ok tt) h = let z : ◌≡◌ {A = ℕ} 0 1 = cc in absurd (omega arith)
+left x y (Err r) h = refl
 
 module _ (n : ℕ) (file list : List ℕ) (rows : Book) where
   judged-bench : {v : Verdict} → v ≡ bench_check n → is_refused (bench_check n) ≡ true → v ≡ check_of rows (fill n (places_at file) (length list))
   unfolding call_check
   judged-bench e h = e ∙ sym (stop (bench_check n) _ h)
 
-  judged-module : (x : Refusal) → is_refused (bench_check n) ≡ false → loadable_at file ≡ loadable.Refused x → Refused x ≡ check_of rows (fill n (places_at file) (length list))
+  judged-module : (x : Refusal) → is_refused (bench_check n) ≡ false → loadable_at file ≡ Err x → Err x ≡ check_of rows (fill n (places_at file) (length list))
   unfolding call_check places_at places_by
   judged-module x h e = sym (go_on (bench_check n) _ h ∙ rw e refl)
 
-  judged-list : (l : Loadable) {v : Verdict} → is_refused (bench_check n) ≡ false → loadable_at file ≡ loadable.Found l → v ≡ refuse_if (not (eqb (length list) l.tables.nsyms)) (refusal.Room AddressList) → v ≡ check_of rows (fill n (places_at file) (length list))
+  judged-list : (l : Loadable) {v : Verdict} → is_refused (bench_check n) ≡ false → loadable_at file ≡ Ok l → v ≡ refuse_if (not (eqb (length list) l.tables.nsyms)) (refusal.Room AddressList) → v ≡ check_of rows (fill n (places_at file) (length list))
   unfolding call_check places_at places_by
   judged-list l h e q = q ∙ sym (go_on (bench_check n) _ h ∙ rw (e, count-places file l) refl)
 
@@ -140,10 +138,10 @@ module _ (rows : Book) (n : ℕ) (file list : List ℕ) where
   pub no-bench : {v : Verdict} → v ≡ bench_check n → is_refused (bench_check n) ≡ true → Fills rows n file list v list
   no-bench {v} e h = fills (judged-bench n file list rows e h) (left (filled rows n (places_at file).places) list v (ap is_refused e ∙ h))
 
-  pub no-module : (x : Refusal) → is_refused (bench_check n) ≡ false → loadable_at file ≡ loadable.Refused x → Fills rows n file list (Refused x) list
+  pub no-module : (x : Refusal) → is_refused (bench_check n) ≡ false → loadable_at file ≡ Err x → Fills rows n file list (Err x) list
   no-module x h e = fills (judged-module n file list rows x h e) refl
 
-  pub by-module : (l : Loadable) {v : Verdict} {out : List ℕ} → is_refused (bench_check n) ≡ false → loadable_at file ≡ loadable.Found l → v ≡ refuse_if (not (eqb (length list) l.tables.nsyms)) (refusal.Room AddressList) → out ≡ if_accepted v (filled rows n (places_of file l)) list → Fills rows n file list v out
+  pub by-module : (l : Loadable) {v : Verdict} {out : List ℕ} → is_refused (bench_check n) ≡ false → loadable_at file ≡ Ok l → v ≡ refuse_if (not (eqb (length list) l.tables.nsyms)) (refusal.Room AddressList) → out ≡ if_accepted v (filled rows n (places_of file l)) list → Fills rows n file list v out
   by-module l {v} h e q w = fills (judged-list n file list rows l h e q) (w ∙ ap (λ (ps : List Place). if_accepted v (filled rows n ps) list) (places-found file l e))
 
 -- the tables of an accepted module

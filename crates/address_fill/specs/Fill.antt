@@ -1,19 +1,17 @@
 -- What the places of a module's lists are for.
-use Rattle.std.specs.Prelude.{cond, List, [], ◌∷◌, ℕ, zero, suc, ◌+◌, ◌*◌, ◌≤◌, eqb, length}
+use Rattle.std.specs.Prelude.{cond, List, [], ◌∷◌, ℕ, zero, suc, ◌+◌, ◌*◌, ◌≤◌, eqb, length, Err, Ok, Result}
 use Rattle.format.specs.declared.FileOffset.{FileOffset}
 use Rattle.format.specs.declared.FileRange.{FileRange}
 use Rattle.format.specs.declared.Format.{Format}
 use Rattle.format.specs.Layout.{loader_symbol_length}
 use Rattle.format.specs.Limit.{file_limit}
-use Rattle.refusal.specs.declared.Verdict.TheVariants as verdict
 use Rattle.refusal.specs.Part.{range_bytes}
 use Rattle.loader_symbol.specs.declared.LoaderEntry.{LoaderEntry}
 use Rattle.loader_symbol.specs.Symbol.{entry_at, name_in, is_imported}
 use Rattle.loadable.specs.declared.Loadable.{Loadable}
-use Rattle.loadable.specs.declared.LoadableAnswer.{LoadableAnswer}
-use Rattle.loadable.specs.declared.LoadableAnswer.TheVariants as loadable
 use Rattle.loadable.specs.Loadable.{loadable_at}
 use Rattle.address_book.specs.Call.{Place, imported, other, Places}
+use Rattle.refusal.specs.declared.Refusal.{Refusal}
 
 -- an import that is not deferred by its file id, its name and its recorded value; every other symbol
 unfoldable pub place_by : LoaderEntry → List ℕ → Place
@@ -32,9 +30,9 @@ places_from file f symbols strings k (suc n) = place_in file f symbols strings k
 unfoldable pub places_of : List ℕ → Loadable → List Place
 places_of file l = places_from file l.layout.format l.tables.symbols l.tables.strings 0 l.tables.nsyms
 
-unfoldable pub places_by : List ℕ → LoadableAnswer → Places
-places_by file (loadable.Found l) = record { verdict = verdict.Accepted; places = places_of file l }
-places_by file (loadable.Refused x) = record { verdict = verdict.Refused x; places = [] }
+unfoldable pub places_by : List ℕ → Result Loadable Refusal → Places
+places_by file (Ok l) = record { verdict = Ok tt; places = places_of file l }
+places_by file (Err x) = record { verdict = Err x; places = [] }
 
 -- what a fill needs of any file
 unfoldable pub places_at : List ℕ → Places

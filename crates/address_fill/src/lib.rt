@@ -12,8 +12,8 @@ ghost use Rattle.address_table.specs.Table.{book_of};
 ghost use Rattle.address_fill.specs.Fill.{Inside, place_in, places_from, places_of, places_at};
 
 use format::{FileOffset, FileRange, Format};
-use loadable::{Loadable, LoadableAnswer};
-use refusal::{Refusal, RoomItem, Verdict};
+use loadable::Loadable;
+use refusal::{Refusal, RoomItem};
 
 // What a fill writes for the loader symbol with place `k`, of a table that starts at `symbols`.
 fn address_at(
@@ -55,10 +55,8 @@ fn fill_list(
     requires { Inside file.now symbols strings (length list.old) }
     ensures { list.new ≡ filled (book_of table.now) bench (places_from file.now f symbols strings 0 (length list.old)) }
 {
-    let mut k = 0;
-    while k < list.len() {
-        list[k] = address_at(file, f, symbols, strings, table, bench, k as u64);
-        k += 1;
+    for (k, address) in list.iter_mut().enumerate() {
+        *address = address_at(file, f, symbols, strings, table, bench, k as u64);
     }
 }
 
@@ -69,36 +67,35 @@ fn fill_module(
     table: &[u64; 4097],
     bench: u64,
     list: &mut [u64],
-) -> Verdict
+) -> Result<(), Refusal>
     requires { Valid file.now l }
     ensures answer { result ≡ refuse_if (not (eqb (length list.old) l.tables.nsyms)) (Refusal.Room AddressList) }
     ensures list { list.new ≡ if_accepted result (filled (book_of table.now) bench (places_of file.now l)) list.old }
 {
     let t = l.tables;
     if list.len() as u64 != t.nsyms {
-        return Verdict::Refused(Refusal::Room(RoomItem::AddressList));
+        return Err(Refusal::Room(RoomItem::AddressList));
     }
     let m = l.layout;
     let f = m.format;
     let symbols = t.symbols;
     let strings = t.strings;
     fill_list(file, f, symbols, strings, table, bench, list);
-    Verdict::Accepted
+    Ok(())
 }
 
 // Fills the list of a plan for the module in `file`: INDEX, the module's refusals, ROOM 2.
-pub fn table_fill(file: &[u8], table: &[u64; 4097], bench: u64, list: &mut [u64]) -> Verdict
+pub fn table_fill(
+    file: &[u8],
+    table: &[u64; 4097],
+    bench: u64,
+    list: &mut [u64],
+) -> Result<(), Refusal>
     ensures cause { result ≡ check_of (book_of table.now) (Call.fill bench (places_at file.now) (length list.old)) }
     ensures report { report_head file.now result ≡ report_head file.now (check_of (book_of table.now) (Call.fill bench (places_at file.now) (length list.old))) }
     ensures list { list.new ≡ memory_in (length (book_of table.now)) (book_of table.now) (Call.fill bench (places_at file.now) (length list.old)) list.old }
 {
-    let v = address_book::check_bench(bench);
-    if refusal::refuses(v) {
-        return v;
-    }
-    let a = loadable::module_of(file);
-    match a {
-        LoadableAnswer::Refused(x) => Verdict::Refused(x),
-        LoadableAnswer::Found(l) => fill_module(file, l, table, bench, list),
-    }
+    address_book::check_bench(bench)?;
+    let l = loadable::module_of(file)?;
+    fill_module(file, l, table, bench, list)
 }

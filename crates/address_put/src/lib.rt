@@ -161,11 +161,8 @@ pub fn put_sections(file: &[u8], y: Summary, d: [u64; 3], imports: &[u64], out: 
     requires { Inside file.now y × (length out.old ≡ length file.now) }
     ensures { ForFormat y.format d imports.now (λ new. out.new ≡ each_from (put_section new file.now y) 0 y.count out.old) }
 {
-    let count = y.count;
-    let mut i: u64 = 0;
-    while i < count {
+    for i in 0..y.count {
         put_section(file, y, d, imports, i, out);
-        i += 1;
     }
 }
 
@@ -250,11 +247,8 @@ pub fn put_symbols(file: &[u8], l: Loadable, d: [u64; 3], imports: &[u64], out: 
     ensures { ForFormat l.layout.format d imports.now (λ new. out.new ≡ each_from (put_symbol new file.now l) 0 l.tables.nsyms out.old) }
 {
     let t = l.tables;
-    let count = t.nsyms;
-    let mut k: u64 = 0;
-    while k < count {
+    for k in 0..t.nsyms {
         put_symbol(file, l, d, imports, k, out);
-        k += 1;
     }
 }
 
@@ -290,10 +284,7 @@ pub fn put_entries(file: &[u8], l: Loadable, d: [u64; 3], imports: &[u64], out: 
     ensures { ForFormat l.layout.format d imports.now (λ new. out.new ≡ each_from (put_entry new file.now l) 0 l.tables.nreloc out.old) }
 {
     let t = l.tables;
-    let count = t.nreloc;
-    let mut i: u64 = 0;
-    while i < count {
+    for i in 0..t.nreloc {
         put_entry(file, l, d, imports, i, out);
-        i += 1;
     }
 }

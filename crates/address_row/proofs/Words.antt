@@ -1,40 +1,26 @@
 -- Keys are found by their words. Assumes nothing.
-use Rattle.std.proofs.Common.{◌≡◌, ℕ, zero, suc, ◌+◌, ◌-◌, ◌*◌, ◌/◌, ◌%◌, ◌^◌, ◌<◌, ◌≤◌, Bool, true, false, cond, ◌&&◌, eqb, ltb, List, [], ◌∷◌, ◌++◌, length, get_or, take, drop, set, replicate, sym, refl, ap, ◌∙◌, zero-add, add-one, arith, length-append, drop_of_length-le, drop-cons, take_at, get_or-append-add, ltb-false, ltb-true, ne_eqb}
+use Rattle.std.proofs.Common.{◌≡◌, ℕ, zero, suc, ◌+◌, ◌-◌, ◌*◌, ◌/◌, ◌%◌, ◌^◌, ◌<◌, ◌≤◌, true, ltb, List, [], ◌∷◌, ◌++◌, length, get_or, take, drop, replicate, sym, refl, ap, ◌∙◌, arith, length-append, take_at, get_or-append-add, ltb-false, ltb-true}
+use Rattle.std.proofs.lemmas.List.{drop-replicate}
 use lib.ListN.{length-replicate, get_or-append}
-use lib.Seq.{sets, sets-eq}
 use Rattle.update.specs.Update.{Bytes, put_field}
 use Rattle.update.proofs.Stores.{sets-whole}
 use Rattle.word.specs.Number.{field_at}
 use Rattle.sheet.specs.Sheet.{numbers_from, address_bytes}
 use Rattle.sheet.proofs.Addresses.{length-addresses, addresses-numbers, write-next, write-end}
-use Rattle.refusal.specs.declared.Verdict.{Verdict}
-use Rattle.refusal.specs.declared.Verdict.TheVariants.{Accepted, Refused}
 use Rattle.refusal.specs.Order.{if_accepted}
-use Rattle.address_book.specs.Book.{Key, key, same_list, same_key}
-use Rattle.address_book.specs.Call.{name_limit, key_check, padded_name, name_numbers}
-use Rattle.address_book.proofs.Order.{cases, no, same-list, same-list-refl, same_key_lem, same-key-refl, other-bench}
+use Rattle.address_book.specs.Book.{Key, same_list, same_key}
+use Rattle.address_book.specs.Call.{key_check, padded_name, name_numbers}
+use Rattle.address_book.proofs.Order.{cases, no, same-list, same-list-refl, same_key_lem, same-key-refl}
 use Rattle.address_row.specs.Words.{sum_of, parts_of, key_words, said, no_key, key_in}
+use Rattle.std.specs.Prelude.{Err, Ok}
+use Rattle.refusal.specs.Verdict.{Verdict}
 
 -- ---- a name with zeros behind it
 
--- the loop that stores the name: a byte more, and its end
-pub pad-next : (p name : List ℕ) (i : ℕ) → i < length name → sets (set p i (get_or name i 0)) (i + 1) (drop (i + 1) name) ≡ sets p i (drop i name)
-pad-next p name i h = rw (add-one i, drop-cons name i 0 h) refl
-
-pub pad-end : (p name : List ℕ) (i : ℕ) → length name ≤ i → sets p i (drop i name) ≡ p
-pad-end p name i h = rw (drop_of_length-le name h) refl
-
-drop-zeros : (n k : ℕ) → drop {A = ℕ} k (replicate n 0) ≡ replicate (n - k) 0
-drop-zeros zero zero = refl
-drop-zeros zero (suc k) = let e : 0 - suc k ≡ 0 = omega arith in rw e refl
-drop-zeros (suc n) zero = let e : suc n - 0 ≡ suc n = omega arith in rw e refl
-drop-zeros (suc n) (suc k) = let e : suc n - suc k ≡ n - k = omega arith in rw e (drop-zeros n k)
-
-pub padded-stored : (name : List ℕ) → length name ≤ 32 → sets (replicate 32 0) 0 name ≡ padded_name name
+-- the name, and the zeros that are left of 32
+pub name-zeros : (name : List ℕ) → name ++ drop (length name) (replicate 32 0) ≡ padded_name name
 unfolding padded_name
-padded-stored name h =
-    sets-eq name (replicate 32 0) 0 (omega (arith, length-replicate {0} {A = ℕ} 32 0))
-    ∙ ap (λ (x : List ℕ). name ++ x) (ap (λ (k : ℕ). drop k (replicate 32 0)) (zero-add (length name)) ∙ drop-zeros 32 (length name))
+name-zeros name = rw (drop-replicate {X = ℕ} (length name) 32 0) refl
 
 pub length-padded : (name : List ℕ) → length name ≤ 32 → length (padded_name name) ≡ 32
 unfolding padded_name
@@ -82,7 +68,7 @@ said-words k b h =
 
 -- a key with a bench and a name that are taken
 pub record Good (k : Key) : Type 0 where
-  pub taken : key_check k ≡ Accepted
+  pub taken : key_check k ≡ Ok tt
   pub owned : 0 < k.bench
   pub bench : k.bench ≤ 2
   pub short : length k.name ≤ 32
@@ -95,8 +81,8 @@ key_in_lem k g = rw (said-words k g.bytes g.short, same-list-refl (key_words k),
 
 -- words that are read as a key are the key's
 by-check : (k : Key) → Good k → (v : Verdict) (l : Key) → if_accepted v l no_key ≡ k → l ≡ k
-by-check k g Accepted l e = e
-by-check k g (Refused x) l e = let z : 0 ≡ k.bench = ap (λ (x : Key). x.bench) e in let o = g.owned in absurd (omega arith)
+by-check k g (Ok tt) l e = e
+by-check k g (Err x) l e = let z : 0 ≡ k.bench = ap (λ (x : Key). x.bench) e in let o = g.owned in absurd (omega arith)
 
 read_as : (k : Key) → Good k → (ws : List ℕ) → key_in ws ≡ k → same_list (key_words k) ws ≡ true
 unfolding key_in

@@ -13,11 +13,7 @@ fn pad(name: &[u8]) -> [u8; 32]
     ensures { result ≡ padded_name name.now }
 {
     let mut p = [0u8; 32];
-    let mut i = 0;
-    while i < name.len() {
-        p[i] = name[i];
-        i += 1;
-    }
+    p[..name.len()].copy_from_slice(name);
     p
 }
 

@@ -1,18 +1,16 @@
 -- The table's memory and its book. Assumes nothing.
 use mathlib.Core.Path.{◌≡◌, refl, sym, ◌∙◌, ap}
-use mathlib.Core.Bool.{Bool, true, false, cond}
-use mathlib.Core.List.{List, [], ◌∷◌}
-use Prim.Native.Nat.{ℕ, zero, suc, ◌+◌, ◌-◌, ◌*◌, ◌≤◌, ◌<◌}
+use mathlib.Core.List.{List}
+use Prim.Native.Nat.{ℕ, suc, ◌+◌, ◌-◌, ◌*◌, ◌≤◌, ◌<◌}
 use native.Mathlib.Nat.{add-zero, zero-add}
 use native.Mathlib.Numerals.{add-one}
 use native.Mathlib.Omega.{arith}
-use borrow.Author.Tests.{lt-ltb, le-ltb, ltb-true, ltb-false}
+use borrow.Author.Tests.{ltb-true, ltb-false}
 use lib.Dec.{ltb}
-use lib.ListN.{length, get_or, set}
+use lib.ListN.{length, get_or}
 use lib.Seq.{get_or-set_same, get_or-set_other}
-use Rattle.update.specs.Update.{Bytes}
-use Rattle.address_book.specs.Book.{Key, Row, row, Book, none, at, same_key, find, put, delete, sorted}
-use Rattle.address_book.specs.Call.{row_limit, name_numbers}
+use Rattle.address_book.specs.Book.{Key, row, none, at, same_key, find, put, delete, sorted}
+use Rattle.address_book.specs.Call.{name_numbers}
 use Rattle.address_book.proofs.Order.{cases}
 use Rattle.address_book.proofs.Laws.{find-sorted, length-sorted, add_to, put-sorted, delete-sorted}
 use Rattle.sheet.specs.Sheet.{numbers_from}
@@ -21,7 +19,7 @@ use Rattle.address_table.proofs.Match.{seven-of}
 use Rattle.address_row.proofs.Words.{Good, key_in_lem, found-by-words}
 use Rattle.address_table.specs.Table.{taken_in, key_words_at, row_at, rows_by, rows_in, book_of, has_words, place_of, with_address, with_row, without_row}
 use Rattle.address_table.proofs.Steps.{Written, Closed, written, closed}
-use Rattle.address_table.proofs.Rows.{length-rows, rows_same, find-no, find-yes, put-there, put-new, delete-there}
+use Rattle.address_table.proofs.Rows.{length-rows, find-no, find-yes, put-there, put-new, delete-there}
 
 -- ---- how many rows are taken
 

@@ -1,31 +1,31 @@
 -- Request 6 for the table's memory: a call leaves the book's rows, and every list of calls from the empty table is the book's. Assumes nothing.
 use mathlib.Core.Path.{◌≡◌, refl, sym, ◌∙◌, ap}
-use mathlib.Core.Bool.{Bool, true, false, cond, ◌&&◌}
+use mathlib.Core.Bool.{Bool, true, false, ◌&&◌}
 use mathlib.Core.List.{List, [], ◌∷◌, ◌++◌}
-use Prim.Native.Nat.{ℕ, zero, suc, ◌+◌, ◌-◌, ◌*◌, ◌≤◌, ◌<◌}
+use Prim.Native.Nat.{ℕ, ◌+◌, ◌-◌, ◌*◌, ◌≤◌, ◌<◌}
 use native.Mathlib.Omega.{arith}
-use borrow.Author.Tests.{eqb-false, lt-ltb, le-ltb, ltb-true, ltb-false}
+use borrow.Author.Tests.{eqb-false, ltb-true, ltb-false}
 use lib.Dec.{eqb, ltb}
-use lib.ListN.{length, get_or, set, take, drop, replicate, length-set, length-replicate}
+use lib.ListN.{length, take, drop, replicate, length-set, length-replicate}
 use lib.Seq.{sets, length-sets}
 use Rattle.refusal.specs.declared.Refusal.TheVariants as refusal
-use Rattle.refusal.specs.declared.Verdict.{Verdict}
-use Rattle.refusal.specs.declared.Verdict.TheVariants.{Accepted, Refused}
-use Rattle.refusal.specs.Order.{◌or_else◌, refuse_if, if_accepted}
+use Rattle.refusal.specs.Order.{refuse_if, if_accepted}
 use Rattle.refusal.proofs.Order.{accepted-first, accepted-rest, accepted-test}
 use Rattle.update.specs.Update.{Bytes}
-use Rattle.address_book.specs.Book.{Key, Book, none, at, find, own, sorted}
+use Rattle.address_book.specs.Book.{Key, Book, none, find, own, sorted}
 use Rattle.address_book.specs.Call.{Call, add, remove, look, fill, count, list, Answer, is_none, row_limit, bench_of, key_check, call_check, check_of, applied, after_in, after, answer_of}
-use Rattle.address_book.specs.Run.{run, answers, pick, calls_by, seen, Seen, seen_by, NeverFull}
+use Rattle.address_book.specs.Run.{run, answers, pick, calls_by, seen, seen_by, NeverFull}
 use Rattle.address_book.proofs.Order.{cases}
 use Rattle.address_book.proofs.Laws.{Ordered, ordered-sorted}
 use Rattle.address_book.proofs.Apart.{after-other, alike, alike-after, answers-alike, rows_alike, never-full-alike}
 use Rattle.address_book.proofs.Full.{present, used-again}
 use Rattle.address_row.specs.Words.{key_words}
 use Rattle.address_row.proofs.Good.{good-key}
-use Rattle.address_table.specs.Table.{taken_in, rows_by, rows_in, book_of, empty_table, place_of, place_in, with_address, with_row, without_row, contents_applied, contents_after}
+use Rattle.address_table.specs.Table.{taken_in, rows_by, rows_in, book_of, empty_table, place_in, with_address, with_row, without_row, contents_applied, contents_after}
 use Rattle.address_table.specs.Run.{contents_run, contents_answers, ByteName, ByteNames}
-use Rattle.address_table.proofs.Memory.{taken-few, length-book, look_none, look-found, book-address, book-row, book-without}
+use Rattle.address_table.proofs.Memory.{taken-few, length-book, look_none, book-address, book-row, book-without}
+use Rattle.std.specs.Prelude.{Err, Ok}
+use Rattle.refusal.specs.Verdict.{Verdict}
 
 -- ---- one call
 
@@ -44,15 +44,15 @@ length-applied (count n) m = refl
 length-applied (list n given) m = refl
 
 by_length : (v : Verdict) (x m : List ℕ) → length x ≡ length m → length (if_accepted v x m) ≡ length m
-by_length Accepted x m e = e
-by_length (Refused r) x m e = refl
+by_length (Ok tt) x m e = e
+by_length (Err r) x m e = refl
 
 length-after : (m : List ℕ) (c : Call) → length (contents_after m c) ≡ length m
 unfolding contents_after
 length-after m c = by_length (check_of (book_of m) c) (contents_applied c m) m (length-applied c m)
 
 -- a key that is found has a row in the memory
-there : (m : List ℕ) (k : Key) → key_check k ≡ Accepted → Bytes k.name → is_none (find (book_of m) k) ≡ false → place_in m k < taken_in m
+there : (m : List ℕ) (k : Key) → key_check k ≡ Ok tt → Bytes k.name → is_none (find (book_of m) k) ≡ false → place_in m k < taken_in m
 there m k v b h =
     cases (ltb (place_in m k) (taken_in m))
     (λ t. ltb-true (place_in m k) (taken_in m) t)
@@ -63,7 +63,7 @@ there m k v b h =
     absurd (omega arith))
 
 -- an accepted addition of a new row finds a free one
-free : (m : List ℕ) (k : Key) (a : ℕ) → check_of (book_of m) (add k a) ≡ Accepted → find (book_of m) k ≡ none → taken_in m < 512
+free : (m : List ℕ) (k : Key) (a : ℕ) → check_of (book_of m) (add k a) ≡ Ok tt → find (book_of m) k ≡ none → taken_in m < 512
 unfolding call_check
 free m k a v e =
     let open_row = accepted-test (is_none (find (book_of m) k) && eqb (length (book_of m)) row_limit) refusal.Full (accepted-rest (key_check k) (refuse_if (is_none (find (book_of m) k) && eqb (length (book_of m)) row_limit) refusal.Full) v) in
@@ -73,15 +73,15 @@ free m k a v e =
     let t = taken-few m in
     omega arith
 
-add-good : (m : List ℕ) (k : Key) (a : ℕ) → check_of (book_of m) (add k a) ≡ Accepted → key_check k ≡ Accepted
+add-good : (m : List ℕ) (k : Key) (a : ℕ) → check_of (book_of m) (add k a) ≡ Ok tt → key_check k ≡ Ok tt
 unfolding call_check
 add-good m k a v = accepted-first (key_check k) (refuse_if (is_none (find (book_of m) k) && eqb (length (book_of m)) row_limit) refusal.Full) v
 
-remove-good : (m : List ℕ) (k : Key) → check_of (book_of m) (remove k) ≡ Accepted → key_check k ≡ Accepted
+remove-good : (m : List ℕ) (k : Key) → check_of (book_of m) (remove k) ≡ Ok tt → key_check k ≡ Ok tt
 unfolding call_check
 remove-good m k v = accepted-first (key_check k) (refuse_if (is_none (find (book_of m) k)) refusal.Absent) v
 
-book-applied : (m : List ℕ) (c : Call) → length m ≡ 4097 → ByteName c → check_of (book_of m) c ≡ Accepted → book_of (contents_applied c m) ≡ applied c (book_of m)
+book-applied : (m : List ℕ) (c : Call) → length m ≡ 4097 → ByteName c → check_of (book_of m) c ≡ Ok tt → book_of (contents_applied c m) ≡ applied c (book_of m)
 unfolding contents_applied applied
 book-applied m (add k a) size b v =
     let good = good-key k (add-good m k a v) b in
@@ -98,9 +98,9 @@ book-applied m (fill n p given) size b v = refl
 book-applied m (count n) size b v = refl
 book-applied m (list n given) size b v = refl
 
-by-check : (v : Verdict) (x m : List ℕ) (y : Book) → (v ≡ Accepted → book_of x ≡ y) → book_of (if_accepted v x m) ≡ if_accepted v y (book_of m)
-by-check Accepted x m y h = h refl
-by-check (Refused r) x m y h = refl
+by-check : (v : Verdict) (x m : List ℕ) (y : Book) → (v ≡ Ok tt → book_of x ≡ y) → book_of (if_accepted v x m) ≡ if_accepted v y (book_of m)
+by-check (Ok tt) x m y h = h refl
+by-check (Err r) x m y h = refl
 
 -- a call leaves in the memory the rows that it leaves in the book
 pub book-after : (m : List ℕ) (c : Call) → length m ≡ 4097 → ByteName c → book_of (contents_after m c) ≡ after (book_of m) c
@@ -181,7 +181,7 @@ lists-never-full n cs ds b d e p q =
     ap (pick n cs) (table-answers cs b) ∙ never-full-alike n cs ds e p q ∙ sym (ap (pick n ds) (table-answers ds d))
 
 -- a removed row is used again: right after an accepted removal an addition of any good key is accepted
-pub row-used-again : (cs : List Call) (k l : Key) (a : ℕ) → Bytes k.name → check_of (book_of (contents_run cs empty_table)) (remove k) ≡ Accepted → key_check l ≡ Accepted → check_of (book_of (contents_after (contents_run cs empty_table) (remove k))) (add l a) ≡ Accepted
+pub row-used-again : (cs : List Call) (k l : Key) (a : ℕ) → Bytes k.name → check_of (book_of (contents_run cs empty_table)) (remove k) ≡ Ok tt → key_check l ≡ Ok tt → check_of (book_of (contents_after (contents_run cs empty_table) (remove k))) (add l a) ≡ Ok tt
 row-used-again cs k l a b v w =
     let x = contents_run cs empty_table in
     let few : length (book_of x) ≤ row_limit = rw (length-book x) (taken-few x) in

@@ -1,43 +1,25 @@
 -- The steps that change the table's memory, and what each number then is. Assumes nothing.
 use mathlib.Core.Path.{◌≡◌, refl, sym, ◌∙◌, ap}
-use mathlib.Core.Logic.{inl, inr}
+use mathlib.Core.Logic.{inl}
 use mathlib.Core.List.{List, [], ◌∷◌, ◌++◌}
-use Prim.Native.Nat.{ℕ, zero, suc, ◌+◌, ◌-◌, ◌*◌, ◌≤◌, ◌<◌}
-use native.Mathlib.Numerals.{add-one}
+use Prim.Native.Nat.{ℕ, ◌+◌, ◌-◌, ◌*◌, ◌≤◌, ◌<◌}
 use native.Mathlib.Omega.{arith}
-use lib.ListN.{length, get_or, set, take, drop, replicate, length-set, length-append, length-drop, length-replicate, get_or-append}
-use lib.Seq.{sets, length-sets, length-take-le, get_or-set_same, get_or-set_other, get_or_at, get_or-take, get_or-drop, drop-cons}
+use lib.ListN.{length, get_or, set, take, drop, replicate, length-append, length-drop, length-replicate, get_or-append}
+use lib.Seq.{sets, sets-eq, length-sets, length-take-le, get_or-set_same, get_or-set_other, get_or_at, get_or-take, get_or-drop}
+use Rattle.std.specs.List.{copy_within}
+use Rattle.std.proofs.Common.{append_assoc}
 use Rattle.update.proofs.Stores.{sets-append, sets-outside, sets-inside}
 use Rattle.address_table.proofs.Match.{seven-of}
 use Rattle.address_table.specs.Table.{with_row, without_row}
 
--- ---- the loop that moves numbers up: those until j are moved, and those from j on are as they were
+-- ---- what a copy within the table leaves is what the stores of the numbers leave
 
-pub record Moving (m t : List ℕ) (from end j : ℕ) : Type 0 where
-  pub same : length t ≡ length m
-  pub left : sets t j (take (end - j) (drop (j + 8) m)) ≡ sets m from (take (end - from) (drop (from + 8) m))
-  pub back : (i : ℕ) → j ≤ i → get_or t i 0 ≡ get_or m i 0
-
-pub move_start : (m : List ℕ) (from end : ℕ) → Moving m m from end from
-move_start m from end = record { same = refl; left = refl; back = λ i h. refl }
-
-pub move-next : {m t : List ℕ} {from end j : ℕ} → j < end → end + 8 ≤ length m → Moving m t from end j → Moving m (set t j (get_or t (j + 8) 0)) from end (j + 1)
-move-next {m} {t} {from} {end} {j} h size k =
-    let left : end - j ≡ suc (end - (j + 1)) = omega arith in
-    let place : j + 1 + 8 ≡ suc (j + 8) = omega arith in
-    let first = drop-cons m (j + 8) 0 (omega arith) in
-    let value = k.back (j + 8) (omega arith) in
-    let open_next : sets (set t j (get_or t (j + 8) 0)) (j + 1) (take (end - (j + 1)) (drop (j + 1 + 8) m)) ≡ sets t j (take (end - j) (drop (j + 8) m)) = rw (left, first, place, value, add-one j) refl in
-    record {
-      same = length-set t j (get_or t (j + 8) 0) ∙ k.same;
-      left = open_next ∙ k.left;
-      back = λ i a. get_or-set_other t j i (get_or t (j + 8) 0) 0 (λ e. omega arith) ∙ k.back i (omega arith);
-    }
-
-pub move-end : {m t : List ℕ} {from end j : ℕ} → end ≤ j → Moving m t from end j → t ≡ sets m from (take (end - from) (drop (from + 8) m))
-move-end {m} {t} {from} {end} {j} h k =
-    let none : end - j ≡ 0 = omega arith in
-    sym (ap (λ (n : ℕ). sets t j (take n (drop (j + 8) m))) none) ∙ k.left
+pub moved_up : {t : List ℕ} (m : List ℕ) (from end : ℕ) → from ≤ end → end + 8 ≤ length m → t ≡ copy_within m (from + 8) (end + 8) from → t ≡ sets m from (take (end - from) (drop (from + 8) m))
+moved_up m from end h size e =
+    let behind = take (end - from) (drop (from + 8) m) in
+    let n : end + 8 - (from + 8) ≡ end - from = omega arith in
+    let some : length behind ≡ end - from = length-take-le (end - from) (drop (from + 8) m) (omega (arith, length-drop (from + 8) m)) in
+    (rw n at e) ∙ append_assoc (take from m) behind (drop (from + (end - from)) m) ∙ sym (rw (append_assoc, some) at (sets-eq behind m from (omega arith)))
 
 -- ---- a row is taken out
 

@@ -1,7 +1,6 @@
 -- Lists of calls on the table's memory, each on the contents that the last one left.
 use Rattle.std.specs.Prelude.{List, [], ◌∷◌, ℕ}
 use Rattle.update.specs.Update.{Bytes}
-use Rattle.address_book.specs.Book.{Key}
 use Rattle.address_book.specs.Call.{Call, add, remove, look, fill, count, list, Answer, answer_of}
 use Rattle.address_table.specs.Table.{book_of, contents_after}
 

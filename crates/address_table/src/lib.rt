@@ -4,14 +4,12 @@
 
 ghost use Rattle.std.specs.Prelude.{◌≡◌, ◌++◌, ◌+◌, ◌-◌, ◌≤◌, ◌<◌, length, set, take, drop};
 ghost use Rattle.std.proofs.lemmas.List.Edits.{sets};
-ghost use Rattle.refusal.specs.declared.Verdict.TheVariants.{Accepted};
 ghost use Rattle.sheet.specs.Sheet.{sheet_head};
 ghost use Rattle.address_book.specs.Book.{key, same_list};
 ghost use Rattle.address_book.specs.Call.{add, remove, look, imported, key_check, check_of, number_of, address_at, report_of_number};
 ghost use Rattle.address_table.specs.Table.{taken_in, key_words_at, place_of, book_of, with_row, without_row, contents_after};
 
-use address_book::NumberAnswer;
-use refusal::{Refusal, Verdict};
+use refusal::Refusal;
 
 const COUNT_AT: usize = 4096;
 
@@ -60,14 +58,12 @@ fn place_of(table: &[u64; 4097], key: [u64; 7], n: usize) -> usize
     requires { n ≤ 512 }
     ensures { result ≡ place_of key table.now 0 n }
 {
-    let mut i = 0;
-    while i < n {
+    for i in 0..n {
         if same_words(table, i * 8, key) {
             return i;
         }
-        i += 1;
     }
-    i
+    n
 }
 
 // ---- changes
@@ -96,11 +92,7 @@ fn move_up(table: &mut [u64], from: usize, end: usize)
     requires { (from ≤ end) × (end + 8 ≤ length table.old) }
     ensures { table.new ≡ sets table.old from (take (end - from) (drop (from + 8) table.old)) }
 {
-    let mut j = from;
-    while j < end {
-        table[j] = table[j + 8];
-        j += 1;
-    }
+    table.copy_within(from + 8..end + 8, from);
 }
 
 // Takes row `p` of `n` out, and clears the last one's place.
@@ -115,20 +107,26 @@ fn remove_at(table: &mut [u64; 4097], p: usize, n: usize)
 
 // ---- calls whose bench and name are good
 
-fn find_good(table: &[u64; 4097], bench: u64, file_id: u64, name: &[u8]) -> NumberAnswer
-    requires { key_check (key bench file_id name.now) ≡ Accepted }
+fn find_good(table: &[u64; 4097], bench: u64, file_id: u64, name: &[u8]) -> Result<u64, Refusal>
+    requires { key_check (key bench file_id name.now) ≡ Ok tt }
     ensures { result ≡ number_of (book_of table.now) (look (key bench file_id name.now)) }
 {
     let n = taken(table);
     let p = place_of(table, address_row::key_words(bench, file_id, name), n);
     if p < n {
-        return NumberAnswer::Found(table[p * 8 + 7]);
+        return Ok(table[p * 8 + 7]);
     }
-    NumberAnswer::Refused(Refusal::Absent)
+    Err(Refusal::Absent)
 }
 
-fn add_good(table: &mut [u64; 4097], bench: u64, file_id: u64, name: &[u8], address: u64) -> Verdict
-    requires { key_check (key bench file_id name.now) ≡ Accepted }
+fn add_good(
+    table: &mut [u64; 4097],
+    bench: u64,
+    file_id: u64,
+    name: &[u8],
+    address: u64,
+) -> Result<(), Refusal>
+    requires { key_check (key bench file_id name.now) ≡ Ok tt }
     ensures answer { result ≡ check_of (book_of table.old) (add (key bench file_id name.now) address) }
     ensures table { table.new ≡ contents_after table.old (add (key bench file_id name.now) address) }
 {
@@ -137,17 +135,22 @@ fn add_good(table: &mut [u64; 4097], bench: u64, file_id: u64, name: &[u8], addr
     let place = place_of(table, words, n);
     if place < n {
         put_number(table, place * 8 + 7, address);
-        return Verdict::Accepted;
+        return Ok(());
     }
     if n == ROW_LIMIT {
-        return Verdict::Refused(Refusal::Full);
+        return Err(Refusal::Full);
     }
     write_new(table, n, words, address);
-    Verdict::Accepted
+    Ok(())
 }
 
-fn remove_good(table: &mut [u64; 4097], bench: u64, file_id: u64, name: &[u8]) -> Verdict
-    requires { key_check (key bench file_id name.now) ≡ Accepted }
+fn remove_good(
+    table: &mut [u64; 4097],
+    bench: u64,
+    file_id: u64,
+    name: &[u8],
+) -> Result<(), Refusal>
+    requires { key_check (key bench file_id name.now) ≡ Ok tt }
     ensures answer { result ≡ check_of (book_of table.old) (remove (key bench file_id name.now)) }
     ensures table { table.new ≡ contents_after table.old (remove (key bench file_id name.now)) }
 {
@@ -156,23 +159,25 @@ fn remove_good(table: &mut [u64; 4097], bench: u64, file_id: u64, name: &[u8]) -
     let p = place_of(table, words, n);
     if p < n {
         remove_at(table, p, n);
-        return Verdict::Accepted;
+        return Ok(());
     }
-    Verdict::Refused(Refusal::Absent)
+    Err(Refusal::Absent)
 }
 
 // ---- the calls
 
 // The address of a bench's row: INDEX, LONG, ABSENT.
-pub fn table_find(table: &[u64; 4097], bench: u64, file_id: u64, name: &[u8]) -> NumberAnswer
+pub fn table_find(
+    table: &[u64; 4097],
+    bench: u64,
+    file_id: u64,
+    name: &[u8],
+) -> Result<u64, Refusal>
     ensures cause { result ≡ number_of (book_of table.now) (look (key bench file_id name.now)) }
     ensures report { report_of_number result ≡ report_of_number (number_of (book_of table.now) (look (key bench file_id name.now))) }
 {
-    let v = address_book::check_key(bench, file_id, name);
-    match v {
-        Verdict::Accepted => find_good(table, bench, file_id, name),
-        Verdict::Refused(x) => NumberAnswer::Refused(x),
-    }
+    address_book::check_key(bench, file_id, name)?;
+    find_good(table, bench, file_id, name)
 }
 
 // Adds a bench's row, or replaces its address: INDEX, LONG, FULL.
@@ -182,29 +187,28 @@ pub fn table_add(
     file_id: u64,
     name: &[u8],
     address: u64,
-) -> Verdict
+) -> Result<(), Refusal>
     ensures cause { result ≡ check_of (book_of table.old) (add (key bench file_id name.now) address) }
     ensures report { sheet_head result ≡ sheet_head (check_of (book_of table.old) (add (key bench file_id name.now) address)) }
     ensures table { table.new ≡ contents_after table.old (add (key bench file_id name.now) address) }
 {
-    let v = address_book::check_key(bench, file_id, name);
-    match v {
-        Verdict::Accepted => add_good(table, bench, file_id, name, address),
-        Verdict::Refused(cause) => Verdict::Refused(cause),
-    }
+    address_book::check_key(bench, file_id, name)?;
+    add_good(table, bench, file_id, name, address)
 }
 
 // Removes a bench's row: INDEX, LONG, ABSENT.
-pub fn table_remove(table: &mut [u64; 4097], bench: u64, file_id: u64, name: &[u8]) -> Verdict
+pub fn table_remove(
+    table: &mut [u64; 4097],
+    bench: u64,
+    file_id: u64,
+    name: &[u8],
+) -> Result<(), Refusal>
     ensures cause { result ≡ check_of (book_of table.old) (remove (key bench file_id name.now)) }
     ensures report { sheet_head result ≡ sheet_head (check_of (book_of table.old) (remove (key bench file_id name.now))) }
     ensures table { table.new ≡ contents_after table.old (remove (key bench file_id name.now)) }
 {
-    let v = address_book::check_key(bench, file_id, name);
-    match v {
-        Verdict::Accepted => remove_good(table, bench, file_id, name),
-        Verdict::Refused(x) => Verdict::Refused(x),
-    }
+    address_book::check_key(bench, file_id, name)?;
+    remove_good(table, bench, file_id, name)
 }
 
 // The address that a fill writes for an import: its row's, or its recorded value where it has none.
@@ -213,7 +217,7 @@ pub fn address_for(table: &[u64; 4097], bench: u64, file_id: u64, name: &[u8], r
 {
     let answer = table_find(table, bench, file_id, name);
     match answer {
-        NumberAnswer::Found(a) => a,
-        NumberAnswer::Refused(_) => recorded,
+        Ok(a) => a,
+        Err(_) => recorded,
     }
 }

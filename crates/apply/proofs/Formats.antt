@@ -4,7 +4,6 @@ use borrow.Author.Tests.{not-false}
 use Rattle.word.proofs.Test.{and_first, and_second}
 use Rattle.format.specs.declared.Format.{Format}
 use Rattle.format.specs.declared.Format.TheVariants.{Xcoff32}
-use Rattle.refusal.specs.declared.Verdict.TheVariants.{Accepted}
 use Rattle.refusal.specs.Order.{refuse_if}
 use Rattle.refusal.proofs.Order.{accepted-rest, accepted-test}
 use Rattle.parts.specs.declared.Parts.{Parts}
@@ -16,11 +15,12 @@ use Rattle.history.specs.declared.Relocation.{Relocation}
 use Rattle.history.specs.Images.{Images, apply_all}
 use Rattle.plan.specs.Relocatable.{relocation_at, relocations_from, relocatable_of}
 use Rattle.apply.specs.Shift.{ForPlans}
+use Rattle.std.specs.Prelude.{Ok}
 
 -- ---- fields of XCOFF32 are of 4 bytes
 
 -- an entry that is accepted by itself is good
-own-good : (f : Format) (p : Parts) (nsyms i : ℕ) (e : RelocationEntry) → own_check f p nsyms i e ≡ Accepted → is_good f p nsyms e ≡ true
+own-good : (f : Format) (p : Parts) (nsyms i : ℕ) (e : RelocationEntry) → own_check f p nsyms i e ≡ Ok tt → is_good f p nsyms e ≡ true
 unfolding own_check
 own-good f p nsyms i e q = not-false (is_good f p nsyms e) (accepted-test (not (is_good f p nsyms e)) _ (accepted-rest (refuse_if (is_thread e) _) _ q))
 
@@ -39,7 +39,7 @@ width_narrow : (e : RelocationEntry) → is_width Xcoff32 (width_bits e.rtype) �
 unfolding is_width
 width_narrow e q = ne_eqb (width_bits e.rtype) 64 (λ h. omega (arith, h, eqb-true (width_bits e.rtype) 32 q))
 
-own-narrow : {f : Format} (p : Parts) (nsyms i : ℕ) (e : RelocationEntry) → f ≡ Xcoff32 → own_check f p nsyms i e ≡ Accepted → is_wide e.rtype ≡ false
+own-narrow : {f : Format} (p : Parts) (nsyms i : ℕ) (e : RelocationEntry) → f ≡ Xcoff32 → own_check f p nsyms i e ≡ Ok tt → is_wide e.rtype ≡ false
 own-narrow {f} p nsyms i e n q = width_narrow e (rw n at (good-width f p nsyms e (own-good f p nsyms i e q)))
 
 -- of an accepted module's entry i

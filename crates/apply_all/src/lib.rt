@@ -56,11 +56,8 @@ fn apply_entries(
     ensures { ForPlans (relocatable_of file.now l) d moving from.now to.now (λ s. images text.new «data».new ≡ apply_all (relocations_from file.now l 0 l.tables.nreloc) s (images text.old «data».old)) }
 {
     let t = l.tables;
-    let count = t.nreloc;
-    let mut i: u64 = 0;
-    while i < count {
+    for i in 0..t.nreloc {
         apply::apply_entry(file, l, i, d, moving, from, to, text, data);
-        i += 1;
     }
 }
 
@@ -82,11 +79,8 @@ fn apply_entries32(
     ensures { ForPlans (relocatable_of file.now l) d moving from.now to.now (λ s. images text.new «data».new ≡ apply_all (relocations_from file.now l 0 l.tables.nreloc) s (images text.old «data».old)) }
 {
     let t = l.tables;
-    let count = t.nreloc;
-    let mut k: u64 = 0;
-    while k < count {
+    for k in 0..t.nreloc {
         apply_entry32(file, l, k, d, moving, from, to, text, data);
-        k += 1;
     }
 }
 

@@ -3,13 +3,13 @@ use mathlib.Core.Path.{◌≡◌, refl, sym, ◌∙◌, ap, ap₂, fun_ext}
 use mathlib.Core.Bool.{Bool, true, false}
 use mathlib.Core.List.{List, [], ◌∷◌}
 use lib.IntN.{+ℤ_idl}
-use Rattle.refusal.specs.declared.Verdict.{Verdict}
-use Rattle.refusal.specs.declared.Verdict.TheVariants.{Accepted, Refused}
 use Rattle.refusal.specs.Order.{if_accepted}
 use Rattle.book.specs.Machine.{Shifts, unshifted, sum, Call, Machine, differences, accepted, effect, run}
 use Rattle.book.specs.Machine.Call.{build, move}
 use Rattle.book.proofs.Call.{LengthLaws, effect-lengths, run-lengths}
 use Rattle.book.specs.Book.{Book, first_book, entered, images_by, book_images, enter, enter_all, book_after}
+use Rattle.std.specs.Prelude.{Err, Ok}
+use Rattle.refusal.specs.Verdict.{Verdict}
 
 -- what the theorem of the book asks of a machine
 pub record Lawful {X L P : Type 0} (m : Machine X L P) : Type 0 where
@@ -52,13 +52,13 @@ module _ {X L P : Type 0} (m : Machine X L P) (law : Lawful m) where
       ap (λ (k : L). if_accepted (m.check k (book_images m b) c) (accepted m c (book_images m b)) (book_images m b)) q
       ∙ by-verdict (m.check l (book_images m b) c) refl
     where
-      base-lengths : m.check l (book_images m b) c ≡ Accepted → m.lengths b.base ≡ m.lengths m.raw
+      base-lengths : m.check l (book_images m b) c ≡ Ok tt → m.lengths b.base ≡ m.lengths m.raw
       base-lengths e = sym (images-lengths b.begun b.shifts b.base) ∙ law.lengths.room (book_images m b) c (rw q e)
 
       by-verdict : (v : Verdict) → m.check l (book_images m b) c ≡ v
           → if_accepted v (accepted m c (book_images m b)) (book_images m b) ≡ book_images m (if_accepted v (entered m c b) b)
-      by-verdict Accepted e = accepted-book c b z (base-lengths e)
-      by-verdict (Refused r) e = refl
+      by-verdict (Ok tt) e = accepted-book c b z (base-lengths e)
+      by-verdict (Err r) e = refl
 
   -- a book that has not begun stays so or begins
   enter-unbegun : (l : L) (c : Call P) (b : Book X) → Unbegun b → Unbegun (enter m l c b)
@@ -66,9 +66,9 @@ module _ {X L P : Type 0} (m : Machine X L P) (law : Lawful m) where
   enter-unbegun l c b z = by-verdict (m.check l (book_images m b) c) c
     where
       by-verdict : (w : Verdict) (k : Call P) → Unbegun (if_accepted w (entered m k b) b)
-      by-verdict Accepted (build p) = λ h. cc
-      by-verdict Accepted (move p q) = λ h. cc
-      by-verdict (Refused r) k = z
+      by-verdict (Ok tt) (build p) = λ h. cc
+      by-verdict (Ok tt) (move p q) = λ h. cc
+      by-verdict (Err r) k = z
 
   -- ---- every list of calls
 

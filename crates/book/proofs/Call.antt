@@ -2,24 +2,24 @@
 use mathlib.Core.Path.{◌≡◌, refl, sym, ◌∙◌}
 use mathlib.Core.List.{List, [], ◌∷◌, ◌++◌}
 use Rattle.refusal.specs.declared.Refusal.{Refusal}
-use Rattle.refusal.specs.declared.Verdict.{Verdict}
-use Rattle.refusal.specs.declared.Verdict.TheVariants.{Accepted, Refused}
 use Rattle.refusal.specs.Order.{if_accepted}
 use Rattle.book.specs.Machine.{Shifts, Call, Machine, differences, accepted, effect, run, Accepts}
 use Rattle.book.specs.Machine.Call.{build, move}
+use Rattle.std.specs.Prelude.{Err, Ok}
+use Rattle.refusal.specs.Verdict.{Verdict}
 
 module _ {X L P : Type 0} (m : Machine X L P) where
   -- what holds of both outcomes of a call holds of what it leaves
   pub effect-either : (Q : X → Type 0) (c : Call P) (x : X) → (Accepts m x c → Q (accepted m c x))
-      → ((r : Refusal) → m.check (m.lengths x) x c ≡ Refused r → Q x) → Q (effect m c x)
+      → ((r : Refusal) → m.check (m.lengths x) x c ≡ Err r → Q x) → Q (effect m c x)
   effect-either Q c x if-accepted if-refused = by-verdict (m.check (m.lengths x) x c) refl
     where
       by-verdict : (v : Verdict) → m.check (m.lengths x) x c ≡ v → Q (if_accepted v (accepted m c x) x)
-      by-verdict Accepted e = if-accepted e
-      by-verdict (Refused r) e = if-refused r e
+      by-verdict (Ok tt) e = if-accepted e
+      by-verdict (Err r) e = if-refused r e
 
   -- demand 1: "A refusal changes no byte of any buffer I lend."
-  pub refused-nothing : (c : Call P) (x : X) (r : Refusal) → m.check (m.lengths x) x c ≡ Refused r → effect m c x ≡ x
+  pub refused-nothing : (c : Call P) (x : X) (r : Refusal) → m.check (m.lengths x) x c ≡ Err r → effect m c x ≡ x
   refused-nothing c x r e = rw e refl
 
   -- what an accepted call leaves

@@ -1,9 +1,8 @@
 -- Builds and moves on images of any shape: what a call leaves in the buffers, and what a list of calls leaves.
-use Rattle.std.specs.Prelude.{List, [], ◌∷◌, ℕ, ℤ, pos, ◌+ℤ◌, ◌-ℤ◌, ◌≡◌}
+use Rattle.std.specs.Prelude.{List, [], ◌∷◌, ℕ, ℤ, pos, ◌+ℤ◌, ◌-ℤ◌, ◌≡◌, Err, Ok}
 use Rattle.refusal.specs.declared.Refusal.{Refusal}
-use Rattle.refusal.specs.declared.Verdict.TheVariants.{Accepted, Refused}
-use Rattle.refusal.specs.declared.Verdict.{Verdict}
 use Rattle.refusal.specs.Order.{if_accepted}
+use Rattle.refusal.specs.Verdict.{Verdict}
 
 -- a shift is document 01's term: an exact whole number for each symbol
 abbrev pub Shifts : Type 0
@@ -58,7 +57,7 @@ module _ {X L P : Type 0} (m : Machine X L P) where
 
   -- a call is accepted on buffers
   abbrev pub Accepts : X → Call P → Type 0
-  Accepts x c = m.check (m.lengths x) x c ≡ Accepted
+  Accepts x c = m.check (m.lengths x) x c ≡ Ok tt
 
   -- `Chain x p cs r`: on buffers x that p was reached in, no build of cs is accepted, and each accepted move goes from the plan that the accepted call
   -- before it reached, or from one with the same displacements; r is the last plan so reached
@@ -66,4 +65,4 @@ module _ {X L P : Type 0} (m : Machine X L P) where
     ended : {x : X} {p : P} → Chain x p [] p
     moved : {x : X} {p o q r : P} {cs : List (Call P)} → Accepts x (move o q) → m.displacements o ≡ m.displacements p
         → Chain (effect (move o q) x) q cs r → Chain x p (move o q ∷ cs) r
-    passed : {x : X} {p r : P} {c : Call P} {cs : List (Call P)} (z : Refusal) → m.check (m.lengths x) x c ≡ Refused z → Chain x p cs r → Chain x p (c ∷ cs) r
+    passed : {x : X} {p r : P} {c : Call P} {cs : List (Call P)} (z : Refusal) → m.check (m.lengths x) x c ≡ Err z → Chain x p cs r → Chain x p (c ∷ cs) r

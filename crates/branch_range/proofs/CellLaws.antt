@@ -1,4 +1,5 @@
 -- The laws of the cells. Assumes nothing.
+use borrow.Author.Count.{below_more}
 use mathlib.Core.Path.{◌≡◌, refl, sym, ◌∙◌, ap, ap₂, subst}
 use mathlib.Core.Bool.{Bool, true, false, cond, not, ◌&&◌}
 use mathlib.Core.List.{List}
@@ -6,7 +7,7 @@ use Prim.Native.Nat.{ℕ, zero, suc, ◌+◌, ◌-◌, ◌*◌, ◌/◌, ◌^◌
 use native.Mathlib.Decide.{dec_lt, dec_le, ℕ_discrete}
 use native.Mathlib.Numerals.{add-one}
 use native.Mathlib.Omega.{arith}
-use lib.ListN.{length, get_or, set, length-set}
+use lib.ListN.{length, get_or, set, replicate, length-set, length-replicate, get_or-replicate, get_or-eq_default}
 use lib.Seq.{get_or-set_same, get_or-set_other}
 use lib.Dec.{leb, eqb}
 use lib.IntN.{ℤ, pos, ◌+ℤ◌, +ℤ_idl, +ℤ_comm}
@@ -70,6 +71,17 @@ cell_set low high x a b z l h e = record {
   there = rw (get_or-set_same low x a 0 l, get_or-set_same high x b 0 h) e;
   else = λ y d. rw (get_or-set_other low x y a 0 d, get_or-set_other high x y b 0 d) refl;
 }
+
+-- what a fill with 0 leaves
+pub filled : {c₀ c : List ℕ} → c ≡ replicate (length c₀) 0 → Zeros c₀ c
+filled {c₀} {c} e = record {
+  size = rw e (length-replicate (length c₀) 0);
+  zero = λ x. rw e (at x (dec_lt x (length c₀)));
+}
+  where
+    at : (x : ℕ) → Dec (x < length c₀) → get_or (replicate {A = ℕ} (length c₀) 0) x 0 ≡ 0
+    at x (yes l) = get_or-replicate (length c₀) x 0 0 l
+    at x (no d) = get_or-eq_default (replicate (length c₀) 0) 0 (omega (arith, length-replicate {0} {A = ℕ} (length c₀) 0))
 
 -- ---- entries added
 
@@ -175,11 +187,7 @@ module _ (g : ℕ → ObjectField) (word : ℕ → ℕ) (base : ℕ) (low high :
   scan-stop n d l q j h = record { within = omega arith; before = none; here = λ _. subst (OutBy word base low high) q (j.hit h) }
 
   pub scan-turn : (d : ObjectField) {b : Bool} → d ≡ g i → JudgeOut word base low high d b → b ≡ false → (k : ℕ) → k < i + 1 → OutBy word base low high (g k) → ⊥
-  scan-turn d q j h k l o = go (ℕ_discrete k i)
-    where
-      go : Dec (k ≡ i) → ⊥
-      go (yes e) = j.miss h (subst (OutBy word base low high) (ap g e ∙ sym q) o)
-      go (no e) = none k (omega arith) o
+  scan-turn d q j h = below_more (λ k. OutBy word base low high (g k) → ⊥) i none (λ o. j.miss h (subst (OutBy word base low high) (sym q) o))
 
   pub scan-end : (n : ℕ) → n ≤ i → ScanOut g word base low high n n
   scan-end n h = record { within = omega arith; before = λ k l. none k (omega arith); here = λ l. absurd (omega arith) }

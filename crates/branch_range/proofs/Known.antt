@@ -8,7 +8,6 @@ use native.Mathlib.Decide.{dec_lt}
 use native.Mathlib.Omega.{arith}
 use lib.ListN.{length, get_or}
 use lib.IntN.{pos, neg_ℤ, nat_abs}
-use Rattle.refusal.specs.declared.Verdict.TheVariants.{Accepted}
 use Rattle.format.specs.declared.Format.{Format}
 use Rattle.format.specs.declared.Format.TheVariants.{Xcoff32, Xcoff64}
 use Rattle.header.proofs.Accepted.{opened_inside}
@@ -33,6 +32,7 @@ use Rattle.section_entries.proofs.Accepted.{own-accepted, none-overlaps}
 use Rattle.object_plan.specs.Shifts.{address_shifts}
 use Rattle.object_plan.specs.Ready.{PartReady}
 use Rattle.branch_range.specs.Cells.{Words, Small}
+use Rattle.std.specs.Prelude.{Ok}
 
 branch-long : (k : FieldKind) → is_branch k ≡ true → bytes_in k ≡ 4
 branch-long Nothing e = no_true e
@@ -62,7 +62,7 @@ module _ (file : List ℕ) (t : Tables) (s : ObjectSection) (k : PartReady file 
   abbrev g : ℕ → ObjectField
   g = field_in file t.format s
 
-  pub own-good : (i : ℕ) → i < s.count → own_at file t s i ≡ Accepted
+  pub own-good : (i : ℕ) → i < s.count → own_at file t s i ≡ Ok tt
   own-good i l = own-accepted file t s k.good i l
 
   pub held-good : (i : ℕ) → i < s.count → is_held t.format s (entry_in file t.format s i) ≡ true

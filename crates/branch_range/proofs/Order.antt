@@ -1,4 +1,5 @@
 -- The laws of the pass over branches in ascending order. Assumes nothing.
+use borrow.Author.Count.{below_more}
 use mathlib.Core.Path.{◌≡◌, refl, sym, ◌∙◌, ap, subst}
 use mathlib.Core.Bool.{Bool, true, false, cond, not, ◌&&◌}
 use Prim.Native.Nat.{ℕ, zero, suc, ◌+◌, ◌≤◌, ◌<◌}
@@ -33,11 +34,7 @@ module _ (g : ℕ → ObjectField) (i : ℕ) (none : (j : ℕ) → j < i → is_
   branch-stop n d l q e h = record { within = omega arith; before = none; here = λ _. branch-told g i d q e h }
 
   pub branch-turn : (d : ObjectField) {b : Bool} → d ≡ g i → b ≡ is_branch d.kind → b ≡ false → (j : ℕ) → j < i + 1 → is_branch (g j).kind ≡ false
-  branch-turn d q e h j l = go (ℕ_discrete j i)
-    where
-      go : Dec (j ≡ i) → is_branch (g j).kind ≡ false
-      go (yes k) = ap (λ (x : ℕ). is_branch (g x).kind) k ∙ branch-told g i d q e h
-      go (no k) = none j (omega arith)
+  branch-turn d q e h = below_more (λ j. is_branch (g j).kind ≡ false) i none (branch-told g i d q e h)
 
   pub branch-end : (n : ℕ) → n ≤ i → FirstBranch g n n
   branch-end n h = record { within = omega arith; before = λ j l. none j (omega arith); here = λ l. absurd (omega arith) }

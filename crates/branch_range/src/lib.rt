@@ -12,7 +12,7 @@ ghost use Rattle.object_entry.specs.Entry.{object_entry};
 ghost use Rattle.object_plan.specs.Shifts.{address_shifts};
 ghost use Rattle.object_plan.specs.Ready.{PartReady};
 ghost use Rattle.branch_range.specs.Range.{FirstOut, word_from};
-ghost use Rattle.branch_range.specs.Cells.{CellOut, AddOut, Zeros, StepOut, LowerOut, AllOut, JudgeOut, ScanOut};
+ghost use Rattle.branch_range.specs.Cells.{CellOut, AddOut, StepOut, LowerOut, AllOut, JudgeOut, ScanOut};
 ghost use Rattle.branch_range.specs.Order.{FirstBranch, Ascended, closed};
 
 use branch::Sum;
@@ -162,28 +162,6 @@ fn lower(g: ObjectField, end: u64, next: u64) -> u64
     g.offset
 }
 
-// Makes every low part 0.
-fn clear_low(cells: &mut [u64])
-    ensures { Zeros cells.old cells.new }
-{
-    let mut i = 0;
-    while i < cells.len() {
-        cells[i] = 0;
-        i += 1;
-    }
-}
-
-// Makes every high part 0.
-fn clear_high(cells: &mut [u32])
-    ensures { Zeros cells.old cells.new }
-{
-    let mut i = 0;
-    while i < cells.len() {
-        cells[i] = 0;
-        i += 1;
-    }
-}
-
 // Fills the cells of the window from `base` with the sums of all entries; and where the next window may start: the lowest branch past
 // this one, or `limit`.
 fn add_all(
@@ -201,17 +179,15 @@ fn add_all(
     requires to_len { (length to.now ≡ 33) × (length from.now ≡ 33) × (length high.old ≡ length low.old) }
     ensures { AllOut (object_entry file.now t s) (address_shifts to.now from.now) s.count base (length low.old) result low.new high.new }
 {
-    clear_low(low);
-    clear_high(high);
+    low.fill(0);
+    high.fill(0);
     let f = t.format;
     let end = base + 4 * low.len() as u64;
     let mut next = limit;
-    let mut i = 0;
-    while i < s.count {
+    for i in 0..s.count {
         let g = section_relocation::field_in(file, f, s, i);
         add_one(file, t, s, i, g, to, from, base, low, high);
         next = lower(g, end, next);
-        i += 1;
     }
     next
 }
@@ -267,13 +243,11 @@ fn scan(
     requires { Readable file.now f s n × (length high.now ≡ length low.now) × (0 < s.size → origin + s.size ≤ length bytes.now) }
     ensures { ScanOut (field_in file.now f s) (word_from bytes.now origin s) base low.now high.now n result }
 {
-    let mut i = 0;
-    while i < n {
+    for i in 0..n {
         let g = section_relocation::field_in(file, f, s, i);
         if is_out(g, s, bytes, origin, base, low, high) {
             return i;
         }
-        i += 1;
     }
     n
 }
@@ -344,14 +318,12 @@ fn first_branch(file: &[u8], f: Format, s: ObjectSection) -> u64
     ensures { FirstBranch (field_in file.now f s) s.count result }
 {
     let n = s.count;
-    let mut i = 0;
-    while i < n {
+    for i in 0..n {
         let g = section_relocation::field_in(file, f, s, i);
         let k = g.kind;
         if is_branch(k) {
             return i;
         }
-        i += 1;
     }
     n
 }
@@ -501,8 +473,7 @@ fn by_order(
         };
     }
     let mut run = begin(file, t, s, to, from, bytes, origin, k);
-    let mut i = k + 1;
-    while i < n {
+    for i in k + 1..n {
         let a = step_order(file, t, s, to, from, bytes, origin, i, run);
         if !a.ascending {
             return OrderAnswer {
@@ -511,7 +482,6 @@ fn by_order(
             };
         }
         run = a;
-        i += 1;
     }
     OrderAnswer {
         known: true,

@@ -7,8 +7,6 @@ use lib.ListN.{length}
 use borrow.Author.Tests.{eq-eqb, ne_eqb}
 use Rattle.refusal.specs.declared.RoomItem.TheVariants.{TextBuffer, DataBuffer}
 use Rattle.refusal.specs.declared.Refusal.TheVariants as refusal
-use Rattle.refusal.specs.declared.Verdict.{Verdict}
-use Rattle.refusal.specs.declared.Verdict.TheVariants.{Accepted, Refused}
 use Rattle.refusal.specs.Refusal.{is_refused}
 use Rattle.refusal.specs.Order.{◌or_else◌}
 use Rattle.refusal.proofs.Order.{told, told-accepted, go_on, stop, accepted-first, accepted-rest}
@@ -20,6 +18,8 @@ use Rattle.history.proofs.Check.{room-lengths}
 use Rattle.plan.specs.Relocatable.{relocatable_of}
 use Rattle.plan.proofs.Raw.{length-raw-text, length-raw-data}
 use Rattle.plan.proofs.Fit.{list-accepted, list-check}
+use Rattle.std.specs.Prelude.{Err, Ok}
+use Rattle.refusal.specs.Verdict.{Verdict}
 
 -- ---- the first refusal of an order, by what the tests of the verdicts said
 
@@ -33,24 +33,24 @@ accepted-here {a = a} b e h k r = r ∙ sym (go_on a b (told e h k))
 
 -- an order of three checks can be read from either end
 pub or_assoc : (a b c : Verdict) → ((a or_else b) or_else c) ≡ (a or_else b or_else c)
-or_assoc Accepted b c = refl
-or_assoc (Refused x) b c = refl
+or_assoc (Ok tt) b c = refl
+or_assoc (Err x) b c = refl
 
 -- ---- ROOM 0, 1
 
 module _ (t d tl dl : ℕ) where
   -- a text buffer of another length is refused
-  pub text-room : (tl ≡ t → ⊥) → Refused (refusal.Room TextBuffer) ≡ buffer_room t d tl dl
+  pub text-room : (tl ≡ t → ⊥) → Err (refusal.Room TextBuffer) ≡ buffer_room t d tl dl
   unfolding buffer_room
   text-room n = rw (ne_eqb tl t n) refl
 
   -- then a data buffer of another length
-  pub data-room : tl ≡ t → (dl ≡ d → ⊥) → Refused (refusal.Room DataBuffer) ≡ buffer_room t d tl dl
+  pub data-room : tl ≡ t → (dl ≡ d → ⊥) → Err (refusal.Room DataBuffer) ≡ buffer_room t d tl dl
   unfolding buffer_room
   data-room e n = rw (eq-eqb tl t e, ne_eqb dl d n) refl
 
   -- buffers of the images' lengths are accepted
-  pub both-room : tl ≡ t → dl ≡ d → Accepted ≡ buffer_room t d tl dl
+  pub both-room : tl ≡ t → dl ≡ d → (Ok tt) ≡ buffer_room t d tl dl
   unfolding buffer_room
   both-room e h = rw (eq-eqb tl t e, eq-eqb dl d h) refl
 
@@ -96,12 +96,12 @@ module _ (file : List ℕ) (l : Loadable) where
 
   module _ (v : Valid file l) (tl dl : ℕ) where
     -- buffers that pass ROOM 0 and 1 have the sizes of the module's images
-    sizes-told : room_check (relocatable_of file l) tl dl ≡ Accepted → (tl ≡ l.layout.parts.text.size) × (dl ≡ l.layout.image)
+    sizes-told : room_check (relocatable_of file l) tl dl ≡ Ok tt → (tl ≡ l.layout.parts.text.size) × (dl ≡ l.layout.image)
     unfolding room_check relocatable_of
     sizes-told e = rw (length-raw-text file l v, length-raw-data file l v) at (room-lengths (relocatable_of file l) tl dl e)
 
     -- an accepted build: its list and both buffers have the right lengths
-    pub build-lengths : (p : Plan) → call_check (relocatable_of file l) tl dl (build p) ≡ Accepted
+    pub build-lengths : (p : Plan) → call_check (relocatable_of file l) tl dl (build p) ≡ Ok tt
         → (length p.list ≡ l.tables.nsyms) × (tl ≡ l.layout.parts.text.size) × (dl ≡ l.layout.image)
     unfolding call_check
     build-lengths p e =
@@ -110,7 +110,7 @@ module _ (file : List ℕ) (l : Loadable) where
         (list-accepted _ _ (accepted-first _ _ a), r.0, r.1)
 
     -- an accepted move
-    pub move-lengths : (p q : Plan) → call_check (relocatable_of file l) tl dl (move p q) ≡ Accepted
+    pub move-lengths : (p q : Plan) → call_check (relocatable_of file l) tl dl (move p q) ≡ Ok tt
         → (length p.list ≡ l.tables.nsyms) × (length q.list ≡ l.tables.nsyms) × (tl ≡ l.layout.parts.text.size) × (dl ≡ l.layout.image)
     move-lengths p q e =
         let a = move-order p q tl dl ∙ e in

@@ -11,36 +11,33 @@ ghost use Rattle.displacement.specs.Reach.{plan_of};
 
 use displacement::Addresses;
 use loadable::Loadable;
-use refusal::{Refusal, RoomItem, Verdict};
+use refusal::{Refusal, RoomItem};
 
 // ROOM 2, then PLAN: a plan for a module that is accepted.
-pub fn check_plan(file: &[u8], l: Loadable, at: Addresses, imports: &[u64]) -> Verdict
+pub fn check_plan(file: &[u8], l: Loadable, at: Addresses, imports: &[u64]) -> Result<(), Refusal>
     requires { Valid file.now l }
     ensures { result ≡ plan_check (relocatable_of file.now l) (plan_of at imports.now) }
 {
-    let list = plan::check_list(l, imports);
-    if refusal::refuses(list) {
-        return list;
-    }
+    plan::check_list(l, imports)?;
     let text = at.text;
     let data = at.data;
     plan_fit::check_fit(file, l, text.0, data.0, imports)
 }
 
 // ROOM 0 and 1: buffers of exactly the images' lengths.
-pub fn check_room(l: Loadable, text: usize, data: usize) -> Verdict
+pub fn check_room(l: Loadable, text: usize, data: usize) -> Result<(), Refusal>
     ensures { result ≡ buffer_room l.layout.parts.text.size l.layout.image text «data» }
 {
     let m = l.layout;
     let p = m.parts;
     let section = p.text;
     if text as u64 != section.size {
-        return Verdict::Refused(Refusal::Room(RoomItem::TextBuffer));
+        return Err(Refusal::Room(RoomItem::TextBuffer));
     }
     if data as u64 != m.image {
-        return Verdict::Refused(Refusal::Room(RoomItem::DataBuffer));
+        return Err(Refusal::Room(RoomItem::DataBuffer));
     }
-    Verdict::Accepted
+    Ok(())
 }
 
 // A build's plan, then the buffers' lengths.
@@ -51,25 +48,19 @@ pub fn check_build(
     imports: &[u64],
     text: usize,
     data: usize,
-) -> Verdict
+) -> Result<(), Refusal>
     requires { Valid file.now l }
     ensures { result ≡ call_check (relocatable_of file.now l) text «data» (build (plan_of at imports.now)) }
 {
-    let v = check_plan(file, l, at, imports);
-    if refusal::refuses(v) {
-        return v;
-    }
+    check_plan(file, l, at, imports)?;
     check_room(l, text, data)
 }
 
 // ROOM 2 of a move: the from plan's list, then the to plan's.
-fn check_lists(l: Loadable, from_imports: &[u64], to_imports: &[u64]) -> Verdict
+fn check_lists(l: Loadable, from_imports: &[u64], to_imports: &[u64]) -> Result<(), Refusal>
     ensures { result ≡ (list_room l.tables.nsyms (length from_imports.now) or_else list_room l.tables.nsyms (length to_imports.now)) }
 {
-    let v = plan::check_list(l, from_imports);
-    if refusal::refuses(v) {
-        return v;
-    }
+    plan::check_list(l, from_imports)?;
     plan::check_list(l, to_imports)
 }
 
@@ -81,7 +72,7 @@ fn check_fits(
     from_imports: &[u64],
     to: Addresses,
     to_imports: &[u64],
-) -> Verdict
+) -> Result<(), Refusal>
     requires valid { Valid file.now l }
     requires from_imports_len { (length from_imports.now ≡ l.tables.nsyms) × (length to_imports.now ≡ l.tables.nsyms) }
     ensures { result ≡ (fit_check (relocatable_of file.now l) (plan_of from from_imports.now) or_else fit_check (relocatable_of file.now l) (plan_of to to_imports.now)) }
@@ -90,10 +81,7 @@ fn check_fits(
     let fd = from.data;
     let tt = to.text;
     let td = to.data;
-    let v = plan_fit::check_fit(file, l, ft.0, fd.0, from_imports);
-    if refusal::refuses(v) {
-        return v;
-    }
+    plan_fit::check_fit(file, l, ft.0, fd.0, from_imports)?;
     plan_fit::check_fit(file, l, tt.0, td.0, to_imports)
 }
 
@@ -107,17 +95,11 @@ pub fn check_move(
     to_imports: &[u64],
     text: usize,
     data: usize,
-) -> Verdict
+) -> Result<(), Refusal>
     requires { Valid file.now l }
     ensures { result ≡ call_check (relocatable_of file.now l) text «data» (move (plan_of from from_imports.now) (plan_of to to_imports.now)) }
 {
-    let lists = check_lists(l, from_imports, to_imports);
-    if refusal::refuses(lists) {
-        return lists;
-    }
-    let fits = check_fits(file, l, from, from_imports, to, to_imports);
-    if refusal::refuses(fits) {
-        return fits;
-    }
+    check_lists(l, from_imports, to_imports)?;
+    check_fits(file, l, from, from_imports, to, to_imports)?;
     check_room(l, text, data)
 }

@@ -1,5 +1,5 @@
 -- The csect entry of a symbol: its last auxiliary.
-use Rattle.std.specs.Prelude.{ℕ, ◌+◌, ◌*◌, ◌/◌, ◌%◌, ◌^◌, Bool, true, not, cond, ◌&&◌, ◌||◌, List, eqb, ltb, leb}
+use Rattle.std.specs.Prelude.{ℕ, ◌+◌, ◌*◌, ◌/◌, ◌%◌, ◌^◌, Bool, true, not, cond, ◌&&◌, ◌||◌, List, eqb, ltb, leb, Err, None, Ok, Option, Result, Some}
 use Rattle.word.specs.Number.{field, field_in}
 use Rattle.word.specs.declared.Field.{Field}
 use Rattle.word.specs.declared.Width.TheVariants.{One, Four}
@@ -10,17 +10,12 @@ use Rattle.refusal.specs.declared.Refusal.TheVariants as refusal
 use Rattle.visibility.specs.Visibility.{is_csect_class}
 use Rattle.symbol.specs.declared.Tables.{Tables}
 use Rattle.symbol.specs.declared.Symbol.{Symbol}
-use Rattle.symbol.specs.declared.SymbolAnswer.{SymbolAnswer}
-use Rattle.symbol.specs.declared.SymbolAnswer.TheVariants as symbol
 use Rattle.symbol.specs.Entry.{entry_start}
 use Rattle.csect.specs.declared.CsectAux.{CsectAux}
 use Rattle.csect.specs.declared.CsectType.{CsectType}
 use Rattle.csect.specs.declared.CsectType.TheVariants.{Er, Sd, Ld, Cm}
-use Rattle.csect.specs.declared.TypeAnswer.{TypeAnswer}
-use Rattle.csect.specs.declared.TypeAnswer.TheVariants.{Known, Unknown}
 use Rattle.csect.specs.declared.Csect.{Csect}
-use Rattle.csect.specs.declared.CsectAnswer.{CsectAnswer}
-use Rattle.csect.specs.declared.CsectAnswer.TheVariants.{Found, Refused}
+use Rattle.refusal.specs.declared.Refusal.{Refusal}
 
 -- places in a csect auxiliary; the high half of the length and the auxiliary type are XCOFF64's
 abbrev pub low_field : Field
@@ -59,13 +54,13 @@ is_marked Xcoff32 a = true
 is_marked Xcoff64 a = eqb a.auxtype 251
 
 -- the type is the low 3 bits of `x_smtyp`
-unfoldable pub type_of : ℕ → TypeAnswer
+unfoldable pub type_of : ℕ → Option CsectType
 type_of low =
-    cond (eqb low 0) (Known Er)
-    (cond (eqb low 1) (Known Sd)
-    (cond (eqb low 2) (Known Ld)
-    (cond (eqb low 3) (Known Cm)
-    Unknown)))
+    cond (eqb low 0) (Some Er)
+    (cond (eqb low 1) (Some Sd)
+    (cond (eqb low 2) (Some Ld)
+    (cond (eqb low 3) (Some Cm)
+    None)))
 
 -- the storage mapping classes of SD and CM: 0 to 13, 15 to 18, 20 to 22
 unfoldable pub is_mapping_class : ℕ → Bool
@@ -83,17 +78,17 @@ unfoldable pub csect_of : CsectType → CsectAux → Csect
 csect_of k a = record { kind = k; align = a.smtyp / 8; smclas = a.smclas; length = a.length }
 
 -- the csect entry a of the symbol s at index i, by its type: CSECT for another class, no auxiliary, a missing 251, a type or mapping class that is not allowed
-unfoldable pub typed_csect : Format → SymbolIndex → Symbol → CsectAux → TypeAnswer → CsectAnswer
-typed_csect f i s a Unknown = Refused (refusal.Csect i)
-typed_csect f i s a (Known k) =
-    cond (is_csect_class s.sclass && ltb 0 s.numaux && is_marked f a && is_mapped k a.smclas) (Found (csect_of k a)) (Refused (refusal.Csect i))
+unfoldable pub typed_csect : Format → SymbolIndex → Symbol → CsectAux → Option CsectType → Result Csect Refusal
+typed_csect f i s a None = Err (refusal.Csect i)
+typed_csect f i s a (Some k) =
+    cond (is_csect_class s.sclass && ltb 0 s.numaux && is_marked f a && is_mapped k a.smclas) (Ok (csect_of k a)) (Err (refusal.Csect i))
 
 -- the csect entry of the symbol s at index i, an LD's container not looked at
-unfoldable pub own_csect : List ℕ → Tables → SymbolIndex → Symbol → CsectAnswer
+unfoldable pub own_csect : List ℕ → Tables → SymbolIndex → Symbol → Result Csect Refusal
 own_csect file t i s =
     let a = aux_at t.format (entry_start t (i.0 + s.numaux)) file in
     typed_csect t.format i s a (type_of (a.smtyp % 8))
 
-unfoldable pub own_after : List ℕ → Tables → SymbolIndex → SymbolAnswer → CsectAnswer
-own_after file t i (symbol.Refused x) = Refused x
-own_after file t i (symbol.Found s) = own_csect file t i s
+unfoldable pub own_after : List ℕ → Tables → SymbolIndex → Result Symbol Refusal → Result Csect Refusal
+own_after file t i (Err x) = Err x
+own_after file t i (Ok s) = own_csect file t i s

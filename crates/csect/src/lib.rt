@@ -9,7 +9,8 @@ ghost use Rattle.symbol.specs.Symbol.{symbol_in};
 
 use format::{Format, SymbolIndex};
 use refusal::Refusal;
-use symbol::{Symbol, SymbolAnswer, Tables};
+use symbol::{Symbol, Tables};
+use word::Width;
 
 // What the 18 bytes of a csect auxiliary hold.
 #[derive(Clone, Copy)]
@@ -29,12 +30,6 @@ pub enum CsectType {
     Cm,
 }
 
-#[derive(Clone, Copy)]
-pub enum TypeAnswer {
-    Known(CsectType),
-    Unknown,
-}
-
 // The type, the alignment log, the storage mapping class, and the length or, of a label, its container's index.
 #[derive(Clone, Copy)]
 pub struct Csect {
@@ -44,20 +39,14 @@ pub struct Csect {
     pub length: u64,
 }
 
-#[derive(Clone, Copy)]
-pub enum CsectAnswer {
-    Found(Csect),
-    Refused(Refusal),
-}
-
 fn read_length(file: &[u8], f: Format, base: usize) -> u64
     requires { base + symbol_length ≤ length file.now }
     ensures { result ≡ length_at f base file.now }
 {
-    let low = word::read_field(file, base, word::four(0));
+    let low = word::read_field(file, base, Width::Four.at(0));
     match f {
         Format::Xcoff32 => low,
-        Format::Xcoff64 => word::read_field(file, base, word::four(12)) * 4294967296 + low,
+        Format::Xcoff64 => word::read_field(file, base, Width::Four.at(12)) * 4294967296 + low,
     }
 }
 
@@ -67,9 +56,9 @@ fn read_aux(file: &[u8], f: Format, base: usize) -> CsectAux
 {
     CsectAux {
         length: read_length(file, f, base),
-        smtyp: word::read_field(file, base, word::one(10)),
-        smclas: word::read_field(file, base, word::one(11)),
-        auxtype: word::read_field(file, base, word::one(17)),
+        smtyp: word::read_field(file, base, Width::One.at(10)),
+        smclas: word::read_field(file, base, Width::One.at(11)),
+        auxtype: word::read_field(file, base, Width::One.at(17)),
     }
 }
 
@@ -82,15 +71,15 @@ fn is_marked(f: Format, a: CsectAux) -> bool
     }
 }
 
-fn type_of(low: u64) -> TypeAnswer
+fn type_of(low: u64) -> Option<CsectType>
     ensures { result ≡ type_of low }
 {
     match low {
-        0 => TypeAnswer::Known(CsectType::Er),
-        1 => TypeAnswer::Known(CsectType::Sd),
-        2 => TypeAnswer::Known(CsectType::Ld),
-        3 => TypeAnswer::Known(CsectType::Cm),
-        _ => TypeAnswer::Unknown,
+        0 => Some(CsectType::Er),
+        1 => Some(CsectType::Sd),
+        2 => Some(CsectType::Ld),
+        3 => Some(CsectType::Cm),
+        _ => None,
     }
 }
 
@@ -132,26 +121,26 @@ fn is_mapped(k: CsectType, m: u64) -> bool
 }
 
 // The csect entry `a` of the symbol `s`, an LD's container not looked at.
-fn judge_csect(f: Format, i: SymbolIndex, s: Symbol, a: CsectAux) -> CsectAnswer
+fn judge_csect(f: Format, i: SymbolIndex, s: Symbol, a: CsectAux) -> Result<Csect, Refusal>
     ensures { result ≡ typed_csect f i s a (type_of (a.smtyp % 8)) }
 {
     let t = type_of(a.smtyp % 8);
-    let TypeAnswer::Known(k) = t else {
-        return CsectAnswer::Refused(Refusal::Csect(i));
+    let Some(k) = t else {
+        return Err(Refusal::Csect(i));
     };
     if !visibility::is_csect_class(s.sclass) {
-        return CsectAnswer::Refused(Refusal::Csect(i));
+        return Err(Refusal::Csect(i));
     }
     if s.numaux == 0 {
-        return CsectAnswer::Refused(Refusal::Csect(i));
+        return Err(Refusal::Csect(i));
     }
     if !is_marked(f, a) {
-        return CsectAnswer::Refused(Refusal::Csect(i));
+        return Err(Refusal::Csect(i));
     }
     if !is_mapped(k, a.smclas) {
-        return CsectAnswer::Refused(Refusal::Csect(i));
+        return Err(Refusal::Csect(i));
     }
-    CsectAnswer::Found(Csect {
+    Ok(Csect {
         kind: k,
         align: a.smtyp / 8,
         smclas: a.smclas,
@@ -160,16 +149,16 @@ fn judge_csect(f: Format, i: SymbolIndex, s: Symbol, a: CsectAux) -> CsectAnswer
 }
 
 // The symbol at `i` and its own csect entry: the symbol's refusal is handed on.
-pub fn own_csect(file: &[u8], t: Tables, i: SymbolIndex) -> CsectAnswer
+pub fn own_csect(file: &[u8], t: Tables, i: SymbolIndex) -> Result<Csect, Refusal>
     requires { OpenTables file.now t }
     ensures { result ≡ own_after file.now t i (symbol_in file.now t i) }
 {
     let answer = symbol::symbol_in(file, t, i);
-    let SymbolAnswer::Found(s) = answer else {
-        let SymbolAnswer::Refused(x) = answer else {
-            return CsectAnswer::Refused(Refusal::Csect(i));
+    let Ok(s) = answer else {
+        let Err(x) = answer else {
+            return Err(Refusal::Csect(i));
         };
-        return CsectAnswer::Refused(x);
+        return Err(x);
     };
     let f = t.format;
     let start = t.start;

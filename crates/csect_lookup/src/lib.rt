@@ -5,9 +5,9 @@ ghost use Rattle.std.specs.Prelude.{◌≡◌, cond};
 ghost use Rattle.symbol.specs.Entry.{OpenTables};
 ghost use Rattle.csect_lookup.specs.Lookup.{is_contained, is_sd, csect_in, csect_at, type_number, report_of_csect, csect_report};
 
-use csect::{Csect, CsectAnswer, CsectType};
+use csect::{Csect, CsectType};
 use format::SymbolIndex;
-use refusal::{Head, Refusal, Verdict};
+use refusal::{Head, Refusal};
 use symbol::Tables;
 
 // `kind` is 0 ER, 1 SD, 2 LD, 3 CM.
@@ -21,12 +21,12 @@ pub struct CsectReport {
     pub length: u64,
 }
 
-fn is_sd(a: CsectAnswer) -> bool
+fn is_sd(a: Result<Csect, Refusal>) -> bool
     ensures { result ≡ is_sd a }
 {
     match a {
-        CsectAnswer::Refused(_) => false,
-        CsectAnswer::Found(c) => {
+        Err(_) => false,
+        Ok(c) => {
             let k = c.kind;
             match k {
                 CsectType::Er => false,
@@ -39,51 +39,43 @@ fn is_sd(a: CsectAnswer) -> bool
 }
 
 // An LD with its container: the entry at its length must read as an SD csect of a smaller index.
-fn judge_label(file: &[u8], t: Tables, i: SymbolIndex, c: Csect) -> CsectAnswer
+fn judge_label(file: &[u8], t: Tables, i: SymbolIndex, c: Csect) -> Result<Csect, Refusal>
     requires { OpenTables file.now t }
-    ensures { result ≡ cond (is_contained file.now t i c CsectType.Ld) (CsectAnswer.Found c) (CsectAnswer.Refused (Refusal.Csect i)) }
+    ensures { result ≡ cond (is_contained file.now t i c CsectType.Ld) (Ok c) (Err (Refusal.Csect i)) }
 {
     if i.0 <= c.length {
-        return CsectAnswer::Refused(Refusal::Csect(i));
+        return Err(Refusal::Csect(i));
     }
     let container = csect::own_csect(file, t, SymbolIndex(c.length));
     if is_sd(container) {
-        return CsectAnswer::Found(c);
+        return Ok(c);
     }
-    CsectAnswer::Refused(Refusal::Csect(i))
+    Err(Refusal::Csect(i))
 }
 
 // The csect entry of the symbol at an index of a file that is open.
-pub fn csect_in(file: &[u8], t: Tables, i: SymbolIndex) -> CsectAnswer
+pub fn csect_in(file: &[u8], t: Tables, i: SymbolIndex) -> Result<Csect, Refusal>
     requires { OpenTables file.now t }
     ensures { result ≡ csect_in file.now t i }
 {
-    let answer = csect::own_csect(file, t, i);
-    let CsectAnswer::Found(c) = answer else {
-        return answer;
-    };
+    let c = csect::own_csect(file, t, i)?;
     let k = c.kind;
     let CsectType::Ld = k else {
-        return CsectAnswer::Found(c);
+        return Ok(c);
     };
     judge_label(file, t, i, c)
 }
 
 // The csect entry of the symbol at an index: opening's refusals, the symbol's own, then CSECT.
-pub fn csect_at(file: &[u8], i: SymbolIndex) -> CsectAnswer
+pub fn csect_at(file: &[u8], i: SymbolIndex) -> Result<Csect, Refusal>
     ensures cause { result ≡ csect_at file.now i }
     ensures report { report_of_csect file.now result ≡ csect_report file.now i }
 {
     let o = header::open(file);
-    let v = o.verdict;
-    match v {
-        Verdict::Refused(x) => CsectAnswer::Refused(x),
-        Verdict::Accepted => {
-            let y = o.summary;
-            let t = symbol::tables_of(file, y);
-            csect_in(file, t, i)
-        }
-    }
+    o.verdict?;
+    let y = o.summary;
+    let t = symbol::tables_of(file, y);
+    csect_in(file, t, i)
 }
 
 fn type_number(k: CsectType) -> u64
@@ -97,18 +89,18 @@ fn type_number(k: CsectType) -> u64
     }
 }
 
-pub fn report_csect(file: &[u8], a: CsectAnswer) -> CsectReport
+pub fn report_csect(file: &[u8], a: Result<Csect, Refusal>) -> CsectReport
     ensures { result ≡ report_of_csect file.now a }
 {
     match a {
-        CsectAnswer::Refused(x) => CsectReport {
+        Err(x) => CsectReport {
             head: offset::refusal_head(file, x),
             kind: 0,
             align: 0,
             smclas: 0,
             length: 0,
         },
-        CsectAnswer::Found(c) => {
+        Ok(c) => {
             let kind = c.kind;
             CsectReport {
                 head: refusal::accepted_head(),

@@ -9,7 +9,6 @@ use lib.Dec.{eqb}
 use lib.ListN.{length, get_or}
 use Rattle.word.proofs.Test.{either, and_second}
 use Rattle.format.specs.declared.FileRange.{FileRange}
-use Rattle.refusal.specs.declared.Verdict.TheVariants.{Accepted}
 use Rattle.section_kind.specs.declared.SectionKind.TheVariants.{Debug}
 use Rattle.section_kind.specs.Kind.{flags_of}
 use Rattle.section.specs.declared.Section.{Section}
@@ -18,9 +17,9 @@ use Rattle.header.specs.declared.Summary.{Summary}
 use Rattle.header.specs.Open.{open_of}
 use Rattle.header.specs.Inside.{Inside}
 use Rattle.header.proofs.Accepted.{opened_inside}
-use Rattle.debug_section.specs.declared.DebugSection.TheVariants.{One, NotOne}
 use Rattle.debug_section.specs.declared.DebugTally.{DebugTally}
 use Rattle.debug_section.specs.Debug.{is_debug, raw_of, debug_ranges, exactly_one, debug_of, last_of, tally_of, DebugInside}
+use Rattle.std.specs.Prelude.{None, Ok, Some}
 
 -- ---- the loop over the sections
 
@@ -48,22 +47,22 @@ ranges-few sections (suc i) = by-test (is_debug (get_or sections i blank_section
 
 -- ---- exactly one
 
-one_last : (rs : List FileRange) → length rs ≡ 1 → One (last_of rs) ≡ exactly_one rs
+one_last : (rs : List FileRange) → length rs ≡ 1 → Some (last_of rs) ≡ exactly_one rs
 one_last [] e = absurd (omega arith)
 one_last (r ∷ []) e = refl
 one_last (r ∷ s ∷ rs) e = absurd (omega arith)
 
-not-one : (rs : List FileRange) → (length rs ≡ 1 → ⊥) → NotOne ≡ exactly_one rs
+not-one : (rs : List FileRange) → (length rs ≡ 1 → ⊥) → None ≡ exactly_one rs
 not-one [] h = refl
 not-one (r ∷ []) h = absurd (h refl)
 not-one (r ∷ s ∷ rs) h = refl
 
 module _ (y : Summary) {t : DebugTally} (e : t ≡ tally_of (debug_ranges y.sections y.count)) where
-  pub debug-one : t.count ≡ 1 → One t.last ≡ debug_of y
+  pub debug-one : t.count ≡ 1 → Some t.last ≡ debug_of y
   unfolding debug_of
   debug-one k = rw e (one_last (debug_ranges y.sections y.count) (rw e at k))
 
-  pub debug-not-one : (t.count ≡ 1 → ⊥) → NotOne ≡ debug_of y
+  pub debug-not-one : (t.count ≡ 1 → ⊥) → None ≡ debug_of y
   unfolding debug_of
   debug-not-one k = not-one (debug_ranges y.sections y.count) (rw e at k)
 
@@ -92,7 +91,7 @@ all-inside file y h (suc i) k =
     let rest = all-inside file y h i (omega arith) in
     either (AllInside (length file)) (is_debug s) (λ e. (raw-inside file y h i (omega arith) e, rest)) (λ _. rest)
 
-pub debug-inside : (file : List ℕ) → (open_of file).verdict ≡ Accepted → DebugInside (length file) (debug_of (open_of file).summary)
+pub debug-inside : (file : List ℕ) → (open_of file).verdict ≡ Ok tt → DebugInside (length file) (debug_of (open_of file).summary)
 unfolding debug_of
 debug-inside file e =
     let y = (open_of file).summary in

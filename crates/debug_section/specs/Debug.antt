@@ -1,5 +1,5 @@
 -- The debug section, and a string in it.
-use Rattle.std.specs.Prelude.{ℕ, zero, suc, ◌+◌, ◌-◌, ◌≤◌, Bool, false, not, cond, ◌&&◌, ◌||◌, List, [], ◌∷◌, eqb, ltb, length, get_or}
+use Rattle.std.specs.Prelude.{ℕ, zero, suc, ◌+◌, ◌-◌, ◌≤◌, Bool, false, not, cond, ◌&&◌, ◌||◌, List, [], ◌∷◌, eqb, ltb, length, get_or, None, Option, Some}
 use Rattle.word.specs.declared.Field.{Field}
 use Rattle.word.specs.declared.Width.TheVariants.{Two, Four}
 use Rattle.word.specs.Number.{field, bytes_in, field_in}
@@ -13,8 +13,6 @@ use Rattle.format.specs.Range.{range}
 use Rattle.section.specs.declared.Section.{Section}
 use Rattle.file_tables.specs.Tables.{blank_section}
 use Rattle.header.specs.declared.Summary.{Summary}
-use Rattle.debug_section.specs.declared.DebugSection.{DebugSection}
-use Rattle.debug_section.specs.declared.DebugSection.TheVariants.{One, NotOne}
 use Rattle.debug_section.specs.declared.DebugTally.{DebugTally}
 
 -- ---- exactly one debug section with raw data
@@ -32,12 +30,12 @@ debug_ranges sections (suc i) =
     let s = get_or sections i blank_section in
     cond (is_debug s) (raw_of s ∷ debug_ranges sections i) (debug_ranges sections i)
 
-abbrev pub exactly_one : List FileRange → DebugSection
-exactly_one [] = NotOne
-exactly_one (r ∷ []) = One r
-exactly_one (r ∷ s ∷ rs) = NotOne
+abbrev pub exactly_one : List FileRange → Option FileRange
+exactly_one [] = None
+exactly_one (r ∷ []) = Some r
+exactly_one (r ∷ s ∷ rs) = None
 
-unfoldable pub debug_of : Summary → DebugSection
+unfoldable pub debug_of : Summary → Option FileRange
 debug_of y = exactly_one (debug_ranges y.sections y.count)
 
 -- how many there are, and the last: serves the contract of `tally_debug` alone
@@ -49,9 +47,9 @@ abbrev pub tally_of : List FileRange → DebugTally
 tally_of rs = record { count = length rs; last = last_of rs }
 
 -- it lies inside the file's `len` bytes
-abbrev pub DebugInside : ℕ → DebugSection → Type 0
-DebugInside len NotOne = Unit {0}
-DebugInside len (One d) = d.start.0 + d.length ≤ len
+abbrev pub DebugInside : ℕ → Option FileRange → Type 0
+DebugInside len None = Unit {0}
+DebugInside len (Some d) = d.start.0 + d.length ≤ len
 
 -- ---- a string of the section, by its offset
 
@@ -70,11 +68,11 @@ length_at f file d o = field_in (length_field f) (d.start.0 + o - length_width f
 unfoldable pub leaves : Format → List ℕ → FileRange → ℕ → Bool
 leaves f file d o = (ltb o (length_width f) || ltb d.length o) || past o (length_at f file d o) d.length
 
-unfoldable pub has_string : Format → List ℕ → DebugSection → ℕ → Bool
-has_string f file NotOne o = false
-has_string f file (One d) o = not (leaves f file d o)
+unfoldable pub has_string : Format → List ℕ → Option FileRange → ℕ → Bool
+has_string f file None o = false
+has_string f file (Some d) o = not (leaves f file d o)
 
 -- the string's bytes; none where there is no section
-unfoldable pub string_range : Format → List ℕ → DebugSection → ℕ → FileRange
-string_range f file NotOne o = range 0 0
-string_range f file (One d) o = range (d.start.0 + o) (length_at f file d o)
+unfoldable pub string_range : Format → List ℕ → Option FileRange → ℕ → FileRange
+string_range f file None o = range 0 0
+string_range f file (Some d) o = range (d.start.0 + o) (length_at f file d o)

@@ -10,14 +10,7 @@ use format::{FileOffset, FileRange, Format};
 use header::Summary;
 use section::Section;
 use section_kind::SectionKind;
-use word::Field;
-
-// The raw data of the debug section, or that there isn't exactly one with raw data.
-#[derive(Clone, Copy)]
-pub enum DebugSection {
-    One(FileRange),
-    NotOne,
-}
+use word::{Field, Width};
 
 // How many debug sections with raw data were met, and the last one's.
 #[derive(Clone, Copy)]
@@ -65,17 +58,14 @@ fn tally_debug(sections: [Section; 32], count: u64) -> DebugTally
             length: 0,
         },
     };
-    let mut i: u64 = 0;
-    while i < count {
-        let s = sections[i as usize];
-        t = tally_step(t, s);
-        i += 1;
+    for s in &sections[..count as usize] {
+        t = tally_step(t, *s);
     }
     t
 }
 
-// The debug section of an opened file.
-pub fn find_debug(y: Summary) -> DebugSection
+// The raw data of an opened file's debug section, or that there isn't exactly one with raw data.
+pub fn find_debug(y: Summary) -> Option<FileRange>
     requires { y.count ≤ section_limit }
     ensures { result ≡ debug_of y }
 {
@@ -83,9 +73,9 @@ pub fn find_debug(y: Summary) -> DebugSection
     let t = tally_debug(sections, y.count);
     if t.count == 1 {
         let last = t.last;
-        return DebugSection::One(last);
+        return Some(last);
     }
-    DebugSection::NotOne
+    None
 }
 
 // A length stands before each string.
@@ -93,8 +83,8 @@ fn length_field(f: Format) -> Field
     ensures { result ≡ length_field f }
 {
     match f {
-        Format::Xcoff32 => word::two(0),
-        Format::Xcoff64 => word::four(0),
+        Format::Xcoff32 => Width::Two.at(0),
+        Format::Xcoff64 => Width::Four.at(0),
     }
 }
 
@@ -111,13 +101,13 @@ fn string_length(file: &[u8], f: Format, d: FileRange, o: u64) -> u64
 }
 
 // Whether the section has a string at the offset `o`: its length and its bytes are inside.
-pub fn has_string(file: &[u8], f: Format, d: DebugSection, o: u64) -> bool
+pub fn has_string(file: &[u8], f: Format, d: Option<FileRange>, o: u64) -> bool
     requires { DebugInside (length file.now) d }
     ensures { result ≡ has_string f file.now d o }
 {
     match d {
-        DebugSection::NotOne => false,
-        DebugSection::One(r) => {
+        None => false,
+        Some(r) => {
             let l = length_field(f);
             let width = l.width;
             if o < word::bytes_in(width) as u64 {
@@ -132,16 +122,16 @@ pub fn has_string(file: &[u8], f: Format, d: DebugSection, o: u64) -> bool
 }
 
 // The bytes of the string at the offset `o`.
-pub fn string_range(file: &[u8], f: Format, d: DebugSection, o: u64) -> FileRange
+pub fn string_range(file: &[u8], f: Format, d: Option<FileRange>, o: u64) -> FileRange
     requires { DebugInside (length file.now) d × (has_string f file.now d o ≡ true) }
     ensures { result ≡ string_range f file.now d o }
 {
     match d {
-        DebugSection::NotOne => FileRange {
+        None => FileRange {
             start: FileOffset(0),
             length: 0,
         },
-        DebugSection::One(r) => {
+        Some(r) => {
             let start = r.start;
             let at = start.0 + o;
             FileRange {

@@ -10,13 +10,13 @@ use Rattle.format.specs.declared.Format.TheVariants.{Xcoff32, Xcoff64}
 use Rattle.format.specs.Layout.{address_limit}
 use Rattle.module.specs.declared.Anchor.{Anchor}
 use Rattle.loadable.specs.declared.Loadable.{Loadable}
-use Rattle.history.specs.declared.AnchorAddress.{AnchorAddress}
-use Rattle.history.specs.declared.AnchorAddress.TheVariants.{Nowhere, At}
 use Rattle.history.specs.Plan.{displacement_of, moved_address, reached_by}
 use Rattle.plan.specs.Relocatable.{anchored, relocatable_of}
 use Rattle.apply.proofs.Stands.{narrowed, stands}
 use Rattle.displacement.specs.declared.Addresses.{Addresses}
 use Rattle.displacement.specs.Reach.{IsMoved, IsReached}
+use Rattle.std.specs.Prelude.{None, Option, Some}
+use Rattle.format.specs.declared.VirtualAddress.{VirtualAddress}
 
 -- ---- a sum that drops at the limit
 
@@ -53,29 +53,29 @@ sum-exact f a d z h =
 
 module _ (l : Loadable) (a : Anchor) (at : Addresses) where
   -- section 0 means that there is none
-  pub anchor-nowhere : a.section.0 ≡ 0 → IsMoved l a at Nowhere
+  pub anchor-nowhere : a.section.0 ≡ 0 → IsMoved l a at None
   unfolding anchored moved_address
   anchor-nowhere e file list = rw (eq-eqb a.section.0 0 e) refl
 
   module _ (d r : ℕ) (here : a.section.0 ≡ 0 → ⊥) (sum : r ≡ (a.address.0 + d) % address_limit l.layout.format) where
     -- an anchor in text moves with text
     pub anchor-text : a.section.0 ≡ l.layout.parts.text.number.0 → d ≡ remainder (pos at.text.0 -ℤ pos l.layout.parts.text.address.0) (2 ^ 64)
-        → IsMoved l a at (At (record { 0 = r }))
+        → IsMoved l a at (Some (record { 0 = r }))
     unfolding anchored moved_address displacement_of relocatable_of
     anchor-text e s file list =
         rw (ne_eqb a.section.0 0 here, eq-eqb a.section.0 l.layout.parts.text.number.0 e)
-        (ap (λ (x : ℕ). At (record { 0 = x })) (sum ∙ sum-exact l.layout.format a.address.0 d _ s))
+        (ap (λ (x : ℕ). Some (record { 0 = x })) (sum ∙ sum-exact l.layout.format a.address.0 d _ s))
 
     -- any other moves with data
     pub anchor-data : (a.section.0 ≡ l.layout.parts.text.number.0 → ⊥)
-        → d ≡ remainder (pos at.«data».0 -ℤ pos l.layout.parts.«data».address.0) (2 ^ 64) → IsMoved l a at (At (record { 0 = r }))
+        → d ≡ remainder (pos at.«data».0 -ℤ pos l.layout.parts.«data».address.0) (2 ^ 64) → IsMoved l a at (Some (record { 0 = r }))
     unfolding anchored moved_address displacement_of relocatable_of
     anchor-data e s file list =
         rw (ne_eqb a.section.0 0 here, ne_eqb a.section.0 l.layout.parts.text.number.0 e)
-        (ap (λ (x : ℕ). At (record { 0 = x })) (sum ∙ sum-exact l.layout.format a.address.0 d _ s))
+        (ap (λ (x : ℕ). Some (record { 0 = x })) (sum ∙ sum-exact l.layout.format a.address.0 d _ s))
 
 -- both anchors make the answer
-pub both-reached : (l : Loadable) (at : Addresses) (entry toc : AnchorAddress) → IsMoved l l.layout.entry at entry → IsMoved l l.layout.toc at toc
+pub both-reached : (l : Loadable) (at : Addresses) (entry toc : Option VirtualAddress) → IsMoved l l.layout.entry at entry → IsMoved l l.layout.toc at toc
     → IsReached l at (record { entry = entry; toc = toc })
 unfolding reached_by relocatable_of
-both-reached l at entry toc e t file list = ap₂ (λ (a b : AnchorAddress). record { entry = a; toc = b }) (e file list) (t file list)
+both-reached l at entry toc e t file list = ap₂ (λ (a b : Option VirtualAddress). record { entry = a; toc = b }) (e file list) (t file list)

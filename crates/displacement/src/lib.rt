@@ -7,7 +7,7 @@ ghost use Rattle.apply.specs.Shift.{Displaced};
 ghost use Rattle.displacement.specs.Reach.{present, address_of, IsMoved, IsReached};
 
 use format::{Format, VirtualAddress};
-use history::{AnchorAddress, Reached};
+use history::Reached;
 use loadable::Loadable;
 use module::Anchor;
 
@@ -58,7 +58,7 @@ pub fn add_address(f: Format, a: u64, d: u64) -> u64
 }
 
 // The entry point or the TOC anchor moved with its section. Section 0 means that there is none.
-fn move_anchor(l: Loadable, a: Anchor, at: Addresses) -> AnchorAddress
+fn move_anchor(l: Loadable, a: Anchor, at: Addresses) -> Option<VirtualAddress>
     ensures { IsMoved l a at result }
 {
     let m = l.layout;
@@ -69,13 +69,13 @@ fn move_anchor(l: Loadable, a: Anchor, at: Addresses) -> AnchorAddress
     let section = a.section;
     let address = a.address;
     if section.0 == 0 {
-        return AnchorAddress::Nowhere;
+        return None;
     }
     let d = displacements(at, l);
     if section.0 == number.0 {
-        return AnchorAddress::At(VirtualAddress(add_address(f, address.0, d[0])));
+        return Some(VirtualAddress(add_address(f, address.0, d[0])));
     }
-    AnchorAddress::At(VirtualAddress(add_address(f, address.0, d[1])))
+    Some(VirtualAddress(add_address(f, address.0, d[1])))
 }
 
 // The entry and TOC addresses in a plan.
@@ -92,21 +92,21 @@ pub fn reach(l: Loadable, at: Addresses) -> Reached
 }
 
 // 1 where there is such an address, else 0.
-pub fn is_present(a: AnchorAddress) -> u64
+pub fn is_present(a: Option<VirtualAddress>) -> u64
     ensures { result ≡ present a }
 {
     match a {
-        AnchorAddress::Nowhere => 0,
-        AnchorAddress::At(_) => 1,
+        None => 0,
+        Some(_) => 1,
     }
 }
 
 // The address, or 0 where there is none.
-pub fn address_of(a: AnchorAddress) -> u64
+pub fn address_of(a: Option<VirtualAddress>) -> u64
     ensures { result ≡ address_of a }
 {
     match a {
-        AnchorAddress::Nowhere => 0,
-        AnchorAddress::At(v) => v.0,
+        None => 0,
+        Some(v) => v.0,
     }
 }

@@ -1,8 +1,7 @@
 -- Laws of aligned fields. Assumes nothing.
-use mathlib.Core.Path.{◌≡◌, sym, ◌∙◌, subst}
+use mathlib.Core.Path.{◌≡◌, sym, ◌∙◌}
 use mathlib.Core.Bool.{Bool, true, false}
 use Prim.Native.Nat.{ℕ, ◌+◌, ◌%◌, ◌≤◌, ◌<◌}
-use native.Mathlib.Decide.{ℕ_discrete}
 use native.Mathlib.Omega.{arith}
 use Rattle.relocation.specs.declared.FieldPlace.{FieldPlace}
 use Rattle.relocation.specs.Relocation.{bytes_wide}
@@ -29,18 +28,3 @@ none-overlap-aligned wide r i n h a =
       before = λ k l m. no-overlap wide (r m.other) (r k) (a m.other (omega (arith, m.earlier))) (a k (omega arith)) m.overlap;
       here = λ l. absurd (omega arith);
     }
-
--- one aligned field more
-pub aligned_next : (wide : Bool) (r : ℕ → FieldPlace) (i : ℕ) {e : FieldPlace} → e ≡ r i → Aligned wide e → ((j : ℕ) → j < i → Aligned wide (r j)) → (j : ℕ) → j < i + 1 → Aligned wide (r j)
-aligned_next wide r i q x a j l = go (ℕ_discrete j i)
-  where
-    go : Dec (j ≡ i) → Aligned wide (r j)
-    go (yes d) = subst (λ (y : ℕ). Aligned wide (r y)) (sym d) (subst (Aligned wide) q x)
-    go (no d) = a j (omega arith)
-
--- a field is aligned, by the tests of its width
-pub wide-aligned : (wide : Bool) (e : FieldPlace) → wide ≡ true → e.wide ≡ true → e.offset % 8 ≡ 0 → Aligned wide e
-wide-aligned wide e p q h = record { width = q ∙ sym p; place = rw p h }
-
-pub narrow-aligned : (wide : Bool) (e : FieldPlace) → wide ≡ false → e.wide ≡ false → e.offset % 4 ≡ 0 → Aligned wide e
-narrow-aligned wide e p q h = record { width = q ∙ sym p; place = rw p h }

@@ -1,4 +1,4 @@
--- The laws of the rule and of readable entries, for the crates above, and of fields that are aligned or in ascending order.
+-- The laws of the rule and of readable entries, for the crates above, and of fields in ascending order.
 
 pub mod Rule
 pub mod Readable

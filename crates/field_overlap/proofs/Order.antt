@@ -16,12 +16,6 @@ use Rattle.field_overlap.proofs.Rule.{no_true, no_false}
 abbrev extent : ℕ → ℕ → Extent
 extent start end = record { start = start; end = end }
 
--- extents are equal by their parts
-pub one-extent : (x y : Extent) → x.start ≡ y.start → x.end ≡ y.end → x ≡ y
-one-extent x y a b =
-    let h : extent x.start x.end ≡ extent y.start y.end = cc in
-    h
-
 start-same : {x y : Extent} → x ≡ y → x.start ≡ y.start
 start-same e = ap (λ (x : Extent). x.start) e
 
@@ -85,15 +79,6 @@ module _ (r : ℕ → FieldPlace) (i : ℕ) where
         go : (j : ℕ) → j < i + 1 → (r j).text ≡ t → Dec (j ≡ i) → (extent_of (r j) ≡ last) ⊎ ((r j).offset + bytes_wide (r j).wide ≤ last.start)
         go j k s (yes e) = absurd (n (ap (λ (x : ℕ). (r x).text) (sym e) ∙ s))
         go j k s (no d) = l.earlier j (omega arith) s
-
--- before the first entry
-pub none_yet : (r : ℕ → FieldPlace) → Ascending r 0 (record { text = extent 0 0; «data» = extent 0 0 })
-none_yet r =
-    record {
-      none = record { within = omega arith; before = λ j l. absurd (omega arith); here = λ l. absurd (omega arith) };
-      in_text = record { ordered = omega arith; earlier = λ j l. absurd (omega arith) };
-      in_data = record { ordered = omega arith; earlier = λ j l. absurd (omega arith) };
-    }
 
 -- past the last entry
 pub none-overlap : (r : ℕ → FieldPlace) (i n : ℕ) (last : LastFields) → i ≤ n → n ≤ i → Ascending r i last → First r n n

@@ -11,10 +11,6 @@ use Rattle.relocation.specs.declared.FieldPlace.{FieldPlace}
 use Rattle.relocation.specs.Relocation.{bytes_wide, place_at}
 use Rattle.field_overlap.specs.Overlap.{Readable}
 
-pub bytes-few : (b : Bool) → bytes_wide b ≤ 8
-bytes-few true = omega arith
-bytes-few false = omega arith
-
 -- the bytes of the section that a field is in
 abbrev pub size_of : Parts → Bool → ℕ
 size_of p text = cond text p.text.size p.«data».size
@@ -31,14 +27,3 @@ module _ (file : List ℕ) (f : Format) (p : Parts) (t : LoaderTables) where
   pub offset-small : (n i : ℕ) (e : FieldPlace) → Readable file f p t n → i < n → e ≡ place_at file f p t i → e.offset ≤ 16777216
   offset-small n i e v l q =
       omega (arith, room n i v l, size_small n v (place_at file f p t i).text, ap (λ (x : FieldPlace). x.offset) q)
-
-  pub readable-less : (k n : ℕ) → k ≤ n → Readable file f p t n → Readable file f p t k
-  readable-less k n h v =
-      record {
-        entries = v.entries;
-        few = omega (arith, v.few);
-        accepted = λ i l. v.accepted i (omega arith);
-        inside = λ i l. v.inside i (omega arith);
-        text_size = v.text_size;
-        data_size = v.data_size;
-      }

@@ -1,8 +1,7 @@
 -- OVERLAP: the first relocation entry whose field shares a byte with an earlier entry's field and is not the same field, over pairs.
-use Rattle.std.specs.Prelude.{◌≡◌, Bool, true, false, not, cond, ◌&&◌, List, ℕ, zero, suc, ◌+◌, ◌≤◌, ◌<◌, ltb, eqb}
+use Rattle.std.specs.Prelude.{◌≡◌, Bool, true, false, not, cond, ◌&&◌, List, ℕ, zero, suc, ◌+◌, ◌≤◌, ◌<◌, ltb, eqb, Ok}
 use Rattle.format.specs.declared.Format.{Format}
 use Rattle.format.specs.Limit.{file_limit}
-use Rattle.refusal.specs.declared.Verdict.TheVariants.{Accepted}
 use Rattle.parts.specs.declared.Parts.{Parts}
 use Rattle.loader_header.specs.declared.LoaderTables.{LoaderTables}
 use Rattle.relocation.specs.declared.FieldPlace.{FieldPlace}
@@ -67,7 +66,7 @@ pub data Compatible (a b : FieldPlace) : Type 0 where
 pub record Readable (file : List ℕ) (f : Format) (p : Parts) (t : LoaderTables) (n : ℕ) : Type 0 where
   pub entries : EntriesInside file f t
   pub few : n ≤ t.nreloc
-  pub accepted : (i : ℕ) → i < n → own_at file f p t i ≡ Accepted
+  pub accepted : (i : ℕ) → i < n → own_at file f p t i ≡ Ok tt
   pub inside : (i : ℕ) → i < n → PlaceInside p (place_at file f p t i)
   pub text_size : p.text.size ≤ file_limit
   pub data_size : p.«data».size ≤ file_limit

@@ -55,13 +55,11 @@ pub fn are_aligned(file: &[u8], f: Format, p: Parts, t: LoaderTables, wide: bool
     requires { Readable file.now f p t n }
     ensures { result ≡ true → First (place_at file.now f p t) n n }
 {
-    let mut i = 0;
-    while i < n {
+    for i in 0..n {
         let e = relocation::place_at(file, f, p, t, i);
         if !is_aligned(e, wide) {
             return false;
         }
-        i += 1;
     }
     true
 }
@@ -120,15 +118,13 @@ pub fn are_ascending(file: &[u8], f: Format, p: Parts, t: LoaderTables, n: u64) 
         text: none,
         data: none,
     };
-    let mut i = 0;
-    while i < n {
+    for i in 0..n {
         let e = relocation::place_at(file, f, p, t, i);
         let s = step(last, e);
         if !s.follows {
             return false;
         }
         last = s.last;
-        i += 1;
     }
     true
 }

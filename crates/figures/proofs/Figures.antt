@@ -6,19 +6,14 @@ use mathlib.Core.List.{List, [], ◌∷◌, map}
 use Rattle.word.specs.Number.{value_of, field_at}
 use Rattle.update.specs.Update.{bytes_of_number, put_field, update, remainder, add_in, add_field}
 use Rattle.format.specs.declared.Format.TheVariants.{Xcoff64, Xcoff32}
-use Rattle.section_kind.specs.declared.KindAnswer.TheVariants.{Allowed}
 use Rattle.section_kind.specs.declared.SectionKind.TheVariants.{Dwarf}
 use Rattle.section_kind.specs.Kind.{kind_of}
 use Rattle.format.specs.Range.{range}
 use Rattle.section.specs.declared.SectionHeader.{SectionHeader}
-use Rattle.section.specs.declared.SectionAnswer.TheVariants as section-answer
 use Rattle.section.specs.Section.{judge_section}
 use Rattle.section.proofs.Figures as section
 use Rattle.refusal.specs.declared.Refusal.TheVariants.{Name, Kind, Lrel}
-use Rattle.refusal.specs.declared.RangeAnswer.TheVariants as range-answer
-use Rattle.refusal.specs.declared.Verdict.TheVariants as verdict
 use Rattle.symbol.proofs.Figures as symbol
-use Rattle.csect.specs.declared.CsectAnswer.TheVariants.{Found}
 use Rattle.csect.specs.declared.CsectType.TheVariants.{Sd}
 use Rattle.csect.specs.Csect.{typed_csect, type_of}
 use Rattle.csect.proofs.Figures as csect
@@ -33,6 +28,7 @@ use Rattle.history.specs.Images.{images, add_at, apply_entry, apply_all}
 use Rattle.history.specs.Plan.{Relocatable, followed_by, displacement_of, displacements, built_images}
 use Rattle.history.specs.Plan.Anchored.{none}
 use Rattle.plan.specs.Relocatable.{relocation_of}
+use Rattle.std.specs.Prelude.{Err, Ok, Some}
 
 -- ---- fields that builds change: P1 to P6
 
@@ -50,7 +46,7 @@ entry rtype symbol = record { address = record { 0 = 0 }; symbol = symbol; rtype
 abbrev module_with : Format → List RelocationEntry → List ℕ → Relocatable
 module_with f es bytes =
     record {
-      verdict = verdict.Accepted;
+      verdict = Ok tt;
       raw = images [] bytes;
       text_address = 0;
       data_address = 0;
@@ -64,7 +60,7 @@ module_with f es bytes =
 -- every entry is one that is applied: neither THREAD nor LREL
 abbrev Good : Format → List RelocationEntry → Type 0
 Good f [] = Unit {0}
-Good f (e ∷ es) = (own_check f parts 0 0 e ≡ verdict.Accepted) × Good f es
+Good f (e ∷ es) = (own_check f parts 0 0 e ≡ Ok tt) × Good f es
 
 -- a build for a card where text is moved by t and data by d changes data that holds `before` into `after`
 abbrev pub Built : Format → List RelocationEntry → (t d : ℕ) → (before after : List ℕ) → Type 0
@@ -85,14 +81,14 @@ Holds P5 =
 Holds P6 = Built Xcoff64 (entry 0x1F00 1 ∷ []) 0 0x100000008 (0x00 ∷ 0x00 ∷ 0x00 ∷ 0x01 ∷ []) (0x00 ∷ 0x00 ∷ 0x00 ∷ 0x09 ∷ [])
 Holds P7 = (subtracts 0x3F01 ≡ true) × (width_bits 0x3F01 ≡ 64) × (is_width Xcoff64 (width_bits 0x3F01) ≡ true)
 Holds P8 =
-    (f : Format) (p : Parts) (nsyms i : ℕ) (e : RelocationEntry) → e.rtype ≡ 0x0F00 → is_thread e ≡ false → own_check f p nsyms i e ≡ verdict.Refused (Lrel (record { 0 = i }))
+    (f : Format) (p : Parts) (nsyms i : ℕ) (e : RelocationEntry) → e.rtype ≡ 0x0F00 → is_thread e ≡ false → own_check f p nsyms i e ≡ Err (Lrel (record { 0 = i }))
 Holds P9 =
     (f : Format) (len : ℕ) (h : SectionHeader) (n : SectionNumber)
-    → (h.flags ≡ 0x00000060 → judge_section f len h n ≡ section-answer.Refused (Kind n)) × (kind_of 0x00020010 ≡ Allowed Dwarf) × (h.flags ≡ 0x00010020 → judge_section f len h n ≡ section-answer.Refused (Kind n))
+    → (h.flags ≡ 0x00000060 → judge_section f len h n ≡ Err (Kind n)) × (kind_of 0x00020010 ≡ Some Dwarf) × (h.flags ≡ 0x00010020 → judge_section f len h n ≡ Err (Kind n))
 Holds P10 =
     map symbol.named (4 ∷ 6 ∷ 3 ∷ 7 ∷ [])
-    ≡ (range-answer.Found (range 4 2), 0x61 ∷ 0x62 ∷ []) ∷ (range-answer.Found (range 6 0), []) ∷ (range-answer.Refused (Name symbol.index), []) ∷ (range-answer.Refused (Name symbol.index), []) ∷ []
-Holds P11 = typed_csect Xcoff32 (record { 0 = 0 }) csect.carrier csect.auxiliary (type_of ((csect.auxiliary).smtyp % 8)) ≡ Found (record { kind = Sd; align = 4; smclas = 5; length = 16 })
+    ≡ (Ok (range 4 2), 0x61 ∷ 0x62 ∷ []) ∷ (Ok (range 6 0), []) ∷ (Err (Name symbol.index), []) ∷ (Err (Name symbol.index), []) ∷ []
+Holds P11 = typed_csect Xcoff32 (record { 0 = 0 }) csect.carrier csect.auxiliary (type_of ((csect.auxiliary).smtyp % 8)) ≡ Ok (record { kind = Sd; align = 4; smclas = 5; length = 16 })
 
 pub figures : List Figure
 figures = P1 ∷ P2 ∷ P3 ∷ P4 ∷ P5 ∷ P6 ∷ P7 ∷ P8 ∷ P9 ∷ P10 ∷ P11 ∷ []

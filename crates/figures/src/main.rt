@@ -1,8 +1,7 @@
 // Document 01's bench figures that are not computed from definitions: made files through the real operations, a line for each.
 #![tactic(auto)]
 
-use loadable::LoadableAnswer;
-use refusal::{Refusal, Verdict};
+use refusal::Refusal;
 use std::io;
 
 fn put2(s: &mut [u8], at: usize, v: u16) {
@@ -84,8 +83,8 @@ fn say_refused(rt: &impl Print, x: Refusal) -> io::Result<()> {
 fn judge(rt: &impl Print, s: &[u8]) -> io::Result<()> {
     let a = loadable::module_of(s);
     match a {
-        LoadableAnswer::Refused(x) => say_refused(rt, x),
-        LoadableAnswer::Found(_) => println!(rt; "accepted"),
+        Err(x) => say_refused(rt, x),
+        Ok(_) => println!(rt; "accepted"),
     }
 }
 
@@ -110,10 +109,8 @@ fn try_fields(rt: &impl Print, first: u32, second: u32) -> io::Result<()> {
 
 // `n` entries on the text section's first fields, the same field twice where it has fewer.
 fn put_entries(s: &mut [u8], start: u16, n: u32) {
-    let mut i: u32 = 0;
-    while i < n {
+    for i in 0..n {
         put_entry(s, start, i, i % 64 * 4);
-        i += 1;
     }
 }
 
@@ -133,10 +130,8 @@ fn try_entries(rt: &impl Print, n: u32, length: u32) -> io::Result<()> {
 
 // The flags of `n` sections of padding.
 fn put_flags(s: &mut [u8], n: u16) {
-    let mut i: u16 = 0;
-    while i < n {
+    for i in 0..n {
         put4(s, 56 + 40 * i as usize, 0x0008);
-        i += 1;
     }
 }
 
@@ -149,8 +144,8 @@ fn try_sections(rt: &impl Print, n: u16) -> io::Result<()> {
     let o = header::open(&s);
     let v = o.verdict;
     match v {
-        Verdict::Refused(x) => say_refused(rt, x),
-        Verdict::Accepted => println!(rt; "accepted"),
+        Err(x) => say_refused(rt, x),
+        Ok(()) => println!(rt; "accepted"),
     }
 }
 

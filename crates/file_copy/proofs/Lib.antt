@@ -1,3 +1,2 @@
--- The laws of a copy.
-pub mod Copy
+-- The laws of numbers put.
 pub mod Put

@@ -12,11 +12,7 @@ pub fn copy_file(file: &[u8], copy: &mut [u8])
     requires { length copy.old ≡ length file.now }
     ensures { copy.new ≡ file.now }
 {
-    let mut i = 0;
-    while i < file.len() {
-        copy[i] = file[i];
-        i += 1;
-    }
+    copy.copy_from_slice(file);
 }
 
 // Sets the field `f` of what starts at `base`; what passes its width is dropped.

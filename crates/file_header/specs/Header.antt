@@ -4,11 +4,11 @@ use Rattle.word.specs.Number.{field_in}
 use Rattle.format.specs.declared.Format.{Format}
 use Rattle.format.specs.Layout.{header_layout, section_layout}
 use Rattle.format.specs.Limit.{section_limit}
-use Rattle.refusal.specs.declared.Verdict.{Verdict}
 use Rattle.refusal.specs.declared.Refusal.TheVariants.{Short, Limit}
 use Rattle.refusal.specs.declared.LimitItem.TheVariants.{Sections}
 use Rattle.refusal.specs.Order.{◌or_else◌, refuse_if}
 use Rattle.file_header.specs.declared.FileHeader.{FileHeader}
+use Rattle.refusal.specs.Verdict.{Verdict}
 
 -- the numbers of the file header
 unfoldable pub header_at : Format → List ℕ → FileHeader

@@ -7,7 +7,7 @@ ghost use Rattle.format.specs.Limit.{file_limit, section_limit};
 ghost use Rattle.file_header.specs.Header.{header_at, section_start, header_check, Bounded};
 
 use format::{FileOffset, Format};
-use refusal::{LimitItem, Refusal, Verdict};
+use refusal::{LimitItem, Refusal};
 
 // The file header's numbers.
 #[derive(Clone, Copy)]
@@ -42,22 +42,22 @@ pub fn read_header(file: &[u8], f: Format) -> FileHeader
 }
 
 // SHORT, LIMIT 1 and SHORT: the section headers, at most 32, are in the file.
-pub fn check_header(file: &[u8], f: Format) -> Verdict
+pub fn check_header(file: &[u8], f: Format) -> Result<(), Refusal>
     ensures { result ≡ header_check f file.now }
 {
     let l = format::header_layout(f);
     let len = file.len() as u64;
     if len < l.length as u64 {
-        return Verdict::Refused(Refusal::Short);
+        return Err(Refusal::Short);
     }
     let h = read_header(file, f);
     if format::SECTION_LIMIT < h.nscns {
-        return Verdict::Refused(Refusal::Limit(LimitItem::Sections));
+        return Err(Refusal::Limit(LimitItem::Sections));
     }
     if len < section_start(f, h.opthdr, h.nscns) {
-        return Verdict::Refused(Refusal::Short);
+        return Err(Refusal::Short);
     }
-    Verdict::Accepted
+    Ok(())
 }
 
 // Where the header of section i + 1 starts.

@@ -15,27 +15,27 @@ use Rattle.word.proofs.Test.{past-yes, past-no, past-not}
 use Rattle.format.specs.Layout.{symbol_length}
 use Rattle.refusal.specs.declared.Refusal.TheVariants.{Bounds, Strings}
 use Rattle.refusal.specs.declared.BoundsItem.TheVariants.{StringTable, SymbolTable}
-use Rattle.refusal.specs.declared.Verdict.TheVariants.{Accepted, Refused}
 use Rattle.refusal.specs.Order.{◌or_else◌, refuse_if}
 use Rattle.refusal.proofs.Order.{accepted-first, accepted-rest, accepted-test}
 use Rattle.file_header.specs.declared.FileHeader.{FileHeader}
 use Rattle.file_tables.specs.Tables.{symbols_end, strings_length, strings_check, symbols_check}
+use Rattle.std.specs.Prelude.{Err, Ok}
 
 -- the string table's answer by its length n
 module _ (file : List ℕ) (end n : ℕ) (e : n ≡ field_at 4 end file) where
-  pub strings-none : end ≡ length file → Accepted ≡ strings_check file end
+  pub strings-none : end ≡ length file → (Ok tt) ≡ strings_check file end
   unfolding strings_check
   strings-none h = rw (eq-eqb end (length file) h)
 
-  pub strings-cut : end < length file → length file < end + 4 → Refused (Bounds StringTable) ≡ strings_check file end
+  pub strings-cut : end < length file → length file < end + 4 → Err (Bounds StringTable) ≡ strings_check file end
   unfolding strings_check
   strings-cut h k = rw (ne_eqb end (length file) (λ q. omega arith), past-yes end 4 (length file) k)
 
-  pub strings-zero : end + 4 ≤ length file → n ≡ 0 → Accepted ≡ strings_check file end
+  pub strings-zero : end + 4 ≤ length file → n ≡ 0 → (Ok tt) ≡ strings_check file end
   unfolding strings_check
   strings-zero h z = rw (ne_eqb end (length file) (λ q. omega arith), past-no end 4 (length file) h, ← e, z, past-no end 0 (length file) (omega arith))
 
-  pub strings-short : end + 4 ≤ length file → 0 < n → n < 4 → Refused Strings ≡ strings_check file end
+  pub strings-short : end + 4 ≤ length file → 0 < n → n < 4 → Err Strings ≡ strings_check file end
   unfolding strings_check
   strings-short h k l = rw (ne_eqb end (length file) (λ q. omega arith), past-no end 4 (length file) h, ← e, lt-ltb 0 n k, lt-ltb n 4 l)
 
@@ -43,23 +43,23 @@ module _ (file : List ℕ) (end n : ℕ) (e : n ≡ field_at 4 end file) where
   unfolding strings_check
   strings-long h k = rw (ne_eqb end (length file) (λ q. omega arith), past-no end 4 (length file) h, ← e, lt-ltb 0 n (omega arith), le-ltb n 4 k)
 
-  pub strings-past : end + 4 ≤ length file → 4 ≤ n → length file < end + n → Refused (Bounds StringTable) ≡ strings_check file end
+  pub strings-past : end + 4 ≤ length file → 4 ≤ n → length file < end + n → Err (Bounds StringTable) ≡ strings_check file end
   strings-past h k l = (rw (past-yes end n (length file) l)) ∙ strings-long h k
 
-  pub strings-whole : end + 4 ≤ length file → 4 ≤ n → end + n ≤ length file → Accepted ≡ strings_check file end
+  pub strings-whole : end + 4 ≤ length file → 4 ≤ n → end + n ≤ length file → (Ok tt) ≡ strings_check file end
   strings-whole h k l = (rw (past-no end n (length file) l)) ∙ strings-long h k
 
 -- a string table that is accepted is not there, or its length bytes are in the file, and so is all of it
-strings-tests : (file : List ℕ) (end : ℕ) → strings_check file end ≡ Accepted → (end ≡ length file → ⊥) → (refuse_if (past end 4 (length file)) (Bounds StringTable) or_else refuse_if (ltb 0 (field_at 4 end file) && ltb (field_at 4 end file) 4) Strings or_else refuse_if (past end (field_at 4 end file) (length file)) (Bounds StringTable)) ≡ Accepted
+strings-tests : (file : List ℕ) (end : ℕ) → strings_check file end ≡ Ok tt → (end ≡ length file → ⊥) → (refuse_if (past end 4 (length file)) (Bounds StringTable) or_else refuse_if (ltb 0 (field_at 4 end file) && ltb (field_at 4 end file) 4) Strings or_else refuse_if (past end (field_at 4 end file) (length file)) (Bounds StringTable)) ≡ Ok tt
 unfolding strings_check
 strings-tests file end e n = rw (ne_eqb end (length file) n) at e
 
-strings-start : (file : List ℕ) (end : ℕ) → strings_check file end ≡ Accepted → Dec (end ≡ length file) → (end ≡ length file) ⊎ (end + 4 ≤ length file)
+strings-start : (file : List ℕ) (end : ℕ) → strings_check file end ≡ Ok tt → Dec (end ≡ length file) → (end ≡ length file) ⊎ (end + 4 ≤ length file)
 strings-start file end e (yes q) = inl q
 strings-start file end e (no n) =
     inr (past-not end 4 (length file) (accepted-test (past end 4 (length file)) (Bounds StringTable) (accepted-first (refuse_if (past end 4 (length file)) (Bounds StringTable)) _ (strings-tests file end e n))))
 
-strings-end : (file : List ℕ) (end : ℕ) → strings_check file end ≡ Accepted → Dec (end ≡ length file) → end + strings_length file end ≤ length file
+strings-end : (file : List ℕ) (end : ℕ) → strings_check file end ≡ Ok tt → Dec (end ≡ length file) → end + strings_length file end ≤ length file
 unfolding strings_length
 strings-end file end e (yes q) = rw (eq-eqb end (length file) q) (omega arith)
 strings-end file end e (no n) =
@@ -71,11 +71,11 @@ strings-end file end e (no n) =
     (accepted-rest (refuse_if (past end 4 (length file)) (Bounds StringTable)) _ (strings-tests file end e n)))))
 
 -- tables that are accepted are inside the file
-module _ (file : List ℕ) (h : FileHeader) (e : symbols_check file h ≡ Accepted) (n : h.nsyms ≡ 0 → ⊥) where
-  symbols-tests : (refuse_if (past h.symptr.0 (h.nsyms * symbol_length) (length file)) (Bounds SymbolTable) or_else strings_check file (symbols_end h)) ≡ Accepted
+module _ (file : List ℕ) (h : FileHeader) (e : symbols_check file h ≡ Ok tt) (n : h.nsyms ≡ 0 → ⊥) where
+  symbols-tests : (refuse_if (past h.symptr.0 (h.nsyms * symbol_length) (length file)) (Bounds SymbolTable) or_else strings_check file (symbols_end h)) ≡ Ok tt
   symbols-tests = unfold symbols_check in rw (ne_eqb h.nsyms 0 n) at e
 
-  strings-accepted : strings_check file (symbols_end h) ≡ Accepted
+  strings-accepted : strings_check file (symbols_end h) ≡ Ok tt
   strings-accepted = accepted-rest (refuse_if (past h.symptr.0 (h.nsyms * symbol_length) (length file)) (Bounds SymbolTable)) _ symbols-tests
 
   pub symbols-inside : h.symptr.0 + h.nsyms * symbol_length ≤ length file

@@ -7,8 +7,8 @@ ghost use Rattle.file_tables.specs.Tables.{blank_section, judged_at, refused_sca
 
 use file_header::FileHeader;
 use format::{FileOffset, FileRange, SectionNumber, VirtualAddress};
-use refusal::{BoundsItem, Refusal, Verdict};
-use section::{Section, SectionAnswer};
+use refusal::{BoundsItem, Refusal};
+use section::Section;
 use section_kind::SectionKind;
 
 // Where the symbol table and the string table lie. A length of 0: there is no string table.
@@ -19,10 +19,10 @@ pub struct SymbolTable {
     pub strings: FileRange,
 }
 
-// The records of a file's sections, blank where one is refused.
+// The records of a file's sections, blank where one is refused. Not a `Result`: the clause of `scan_sections` says that they are blank.
 #[derive(Clone, Copy)]
 pub struct Scan {
-    pub verdict: Verdict,
+    pub verdict: Result<(), Refusal>,
     pub sections: [Section; 32],
 }
 
@@ -48,13 +48,13 @@ fn refuse_scan(x: Refusal) -> Scan
 {
     let blank = blank_section();
     Scan {
-        verdict: Verdict::Refused(x),
+        verdict: Err(x),
         sections: [blank; 32],
     }
 }
 
 // The section with index `i`, from zero, is number i + 1.
-fn judge_at(file: &[u8], h: FileHeader, i: u64) -> SectionAnswer
+fn judge_at(file: &[u8], h: FileHeader, i: u64) -> Result<Section, Refusal>
     requires { HeaderComplete file.now h × Bounded h × (i < h.nscns) }
     ensures { result ≡ judged_at file.now h i }
 {
@@ -71,63 +71,60 @@ pub fn scan_sections(file: &[u8], h: FileHeader) -> Scan
 {
     let blank = blank_section();
     let mut sections = [blank; 32];
-    let count = h.nscns;
-    let mut i: u64 = 0;
-    while i < count {
+    for i in 0..h.nscns {
         let a = judge_at(file, h, i);
         match a {
-            SectionAnswer::Refused(x) => {
+            Err(x) => {
                 return refuse_scan(x);
             }
-            SectionAnswer::Found(s) => {
+            Ok(s) => {
                 sections[i as usize] = s;
             }
         }
-        i += 1;
     }
     Scan {
-        verdict: Verdict::Accepted,
+        verdict: Ok(()),
         sections,
     }
 }
 
 // The string table at `end`, where the symbol table ends.
-fn check_strings(file: &[u8], end: usize) -> Verdict
+fn check_strings(file: &[u8], end: usize) -> Result<(), Refusal>
     requires { end ≤ length file.now }
     ensures { result ≡ strings_check file.now end }
 {
     let left = file.len() - end;
     if left == 0 {
-        return Verdict::Accepted;
+        return Ok(());
     }
     if left < 4 {
-        return Verdict::Refused(Refusal::Bounds(BoundsItem::StringTable));
+        return Err(Refusal::Bounds(BoundsItem::StringTable));
     }
     let size = word::get32(file, end);
     if size == 0 {
-        return Verdict::Accepted;
+        return Ok(());
     }
     if size < 4 {
-        return Verdict::Refused(Refusal::Strings);
+        return Err(Refusal::Strings);
     }
     if left < size as usize {
-        return Verdict::Refused(Refusal::Bounds(BoundsItem::StringTable));
+        return Err(Refusal::Bounds(BoundsItem::StringTable));
     }
-    Verdict::Accepted
+    Ok(())
 }
 
 // The symbol table, then the string table.
-pub fn check_symbols(file: &[u8], h: FileHeader) -> Verdict
+pub fn check_symbols(file: &[u8], h: FileHeader) -> Result<(), Refusal>
     requires { Bounded h }
     ensures { result ≡ symbols_check file.now h }
 {
     if h.nsyms == 0 {
-        return Verdict::Accepted;
+        return Ok(());
     }
     let size = h.nsyms * format::SYMBOL_LENGTH;
     let p = h.symptr;
     if word::ends_past(p.0, size, file.len() as u64) {
-        return Verdict::Refused(Refusal::Bounds(BoundsItem::SymbolTable));
+        return Err(Refusal::Bounds(BoundsItem::SymbolTable));
     }
     check_strings(file, (p.0 + size) as usize)
 }
@@ -145,7 +142,7 @@ fn strings_length(file: &[u8], end: usize) -> u64
 
 // Where the tables lie that `check_symbols` accepts.
 pub fn find_symbols(file: &[u8], h: FileHeader) -> SymbolTable
-    requires { (symbols_check file.now h ≡ Verdict.Accepted) × Bounded h }
+    requires { (symbols_check file.now h ≡ Ok tt) × Bounded h }
     ensures { result ≡ symbol_table file.now h }
 {
     if h.nsyms == 0 {

@@ -1,12 +1,10 @@
 -- The two formats: their magic numbers, where their headers keep each number, and the end of their address spaces.
-use Rattle.std.specs.Prelude.{ℕ, ◌^◌, cond, eqb}
+use Rattle.std.specs.Prelude.{ℕ, ◌^◌, cond, eqb, None, Option, Some}
 use Rattle.word.specs.declared.Field.{Field}
 use Rattle.word.specs.declared.Width.TheVariants.{One, Two, Four, Eight}
 use Rattle.word.specs.Number.{field}
 use Rattle.format.specs.declared.Format.{Format}
 use Rattle.format.specs.declared.Format.TheVariants.{Xcoff32, Xcoff64}
-use Rattle.format.specs.declared.MagicAnswer.{MagicAnswer}
-use Rattle.format.specs.declared.MagicAnswer.TheVariants.{Known, Unknown}
 use Rattle.format.specs.declared.HeaderLayout.{HeaderLayout}
 use Rattle.format.specs.declared.SectionLayout.{SectionLayout}
 use Rattle.format.specs.declared.AuxLayout.{AuxLayout}
@@ -19,8 +17,8 @@ use Rattle.format.specs.declared.RelocationLayout.{RelocationLayout}
 abbrev pub magic_field : Field
 magic_field = field 0 Two
 
-unfoldable pub format_of : ℕ → MagicAnswer
-format_of magic = cond (eqb magic 0x01DF) (Known Xcoff32) (cond (eqb magic 0x01F7) (Known Xcoff64) Unknown)
+unfoldable pub format_of : ℕ → Option Format
+format_of magic = cond (eqb magic 0x01DF) (Some Xcoff32) (cond (eqb magic 0x01F7) (Some Xcoff64) None)
 
 -- the file header
 abbrev pub header_layout : Format → HeaderLayout

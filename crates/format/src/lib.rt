@@ -7,7 +7,7 @@ ghost use Rattle.format.specs.Name.{name_field};
 ghost use Rattle.format.specs.Range.{text_in, text_of};
 ghost use Rattle.format.specs.Layout.{format_of, header_layout, section_layout, aux_layout, aux_numbers, symbol_layout, short_name, loader_layout, relocation_layout, address_limit, bits_of};
 
-use word::Field;
+use word::{Field, Width};
 
 // What is above a limit is refused.
 pub const FILE_LIMIT: usize = 16777216;
@@ -58,12 +58,6 @@ pub struct FileRange {
 pub enum Format {
     Xcoff32,
     Xcoff64,
-}
-
-#[derive(Clone, Copy)]
-pub enum MagicAnswer {
-    Known(Format),
-    Unknown,
 }
 
 // The file header's numbers, and how long it is.
@@ -153,37 +147,37 @@ pub struct RelocationLayout {
 }
 
 // The format that a magic number names.
-pub fn format_of(magic: u64) -> MagicAnswer
+pub fn format_of(magic: u64) -> Option<Format>
     ensures { result ≡ format_of magic }
 {
     if magic == 0x01DF {
-        return MagicAnswer::Known(Format::Xcoff32);
+        return Some(Format::Xcoff32);
     }
     if magic == 0x01F7 {
-        return MagicAnswer::Known(Format::Xcoff64);
+        return Some(Format::Xcoff64);
     }
-    MagicAnswer::Unknown
+    None
 }
 
 pub fn header_layout(f: Format) -> HeaderLayout
     ensures { result ≡ header_layout f }
 {
-    let nscns = word::two(2);
-    let opthdr = word::two(16);
-    let flags = word::two(18);
+    let nscns = Width::Two.at(2);
+    let opthdr = Width::Two.at(16);
+    let flags = Width::Two.at(18);
     match f {
         Format::Xcoff32 => HeaderLayout {
             nscns,
-            symptr: word::four(8),
-            nsyms: word::four(12),
+            symptr: Width::Four.at(8),
+            nsyms: Width::Four.at(12),
             opthdr,
             flags,
             length: 20,
         },
         Format::Xcoff64 => HeaderLayout {
             nscns,
-            symptr: word::eight(8),
-            nsyms: word::four(20),
+            symptr: Width::Eight.at(8),
+            nsyms: Width::Four.at(20),
             opthdr,
             flags,
             length: 24,
@@ -194,32 +188,32 @@ pub fn header_layout(f: Format) -> HeaderLayout
 pub fn section_layout(f: Format) -> SectionLayout
     ensures { result ≡ section_layout f }
 {
-    let name = word::eight(0);
+    let name = Width::Eight.at(0);
     match f {
         Format::Xcoff32 => SectionLayout {
             name,
-            paddr: word::four(8),
-            vaddr: word::four(12),
-            size: word::four(16),
-            scnptr: word::four(20),
-            relptr: word::four(24),
-            lnnoptr: word::four(28),
-            nreloc: word::two(32),
-            nlnno: word::two(34),
-            flags: word::four(36),
+            paddr: Width::Four.at(8),
+            vaddr: Width::Four.at(12),
+            size: Width::Four.at(16),
+            scnptr: Width::Four.at(20),
+            relptr: Width::Four.at(24),
+            lnnoptr: Width::Four.at(28),
+            nreloc: Width::Two.at(32),
+            nlnno: Width::Two.at(34),
+            flags: Width::Four.at(36),
             length: 40,
         },
         Format::Xcoff64 => SectionLayout {
             name,
-            paddr: word::eight(8),
-            vaddr: word::eight(16),
-            size: word::eight(24),
-            scnptr: word::eight(32),
-            relptr: word::eight(40),
-            lnnoptr: word::eight(48),
-            nreloc: word::four(56),
-            nlnno: word::four(60),
-            flags: word::four(64),
+            paddr: Width::Eight.at(8),
+            vaddr: Width::Eight.at(16),
+            size: Width::Eight.at(24),
+            scnptr: Width::Eight.at(32),
+            relptr: Width::Eight.at(40),
+            lnnoptr: Width::Eight.at(48),
+            nreloc: Width::Four.at(56),
+            nlnno: Width::Four.at(60),
+            flags: Width::Four.at(64),
             length: 72,
         },
     }
@@ -230,23 +224,23 @@ pub fn aux_layout(f: Format) -> AuxLayout
 {
     match f {
         Format::Xcoff32 => AuxLayout {
-            tsize: word::four(4),
-            dsize: word::four(8),
-            bsize: word::four(12),
-            entry: word::four(16),
-            tstart: word::four(20),
-            dstart: word::four(24),
-            toc: word::four(28),
+            tsize: Width::Four.at(4),
+            dsize: Width::Four.at(8),
+            bsize: Width::Four.at(12),
+            entry: Width::Four.at(16),
+            tstart: Width::Four.at(20),
+            dstart: Width::Four.at(24),
+            toc: Width::Four.at(28),
             length: 72,
         },
         Format::Xcoff64 => AuxLayout {
-            tsize: word::eight(56),
-            dsize: word::eight(64),
-            bsize: word::eight(72),
-            entry: word::eight(80),
-            tstart: word::eight(8),
-            dstart: word::eight(16),
-            toc: word::eight(24),
+            tsize: Width::Eight.at(56),
+            dsize: Width::Eight.at(64),
+            bsize: Width::Eight.at(72),
+            entry: Width::Eight.at(80),
+            tstart: Width::Eight.at(8),
+            dstart: Width::Eight.at(16),
+            toc: Width::Eight.at(24),
             length: 110,
         },
     }
@@ -256,34 +250,34 @@ pub fn aux_numbers() -> AuxNumbers
     ensures { result ≡ aux_numbers }
 {
     AuxNumbers {
-        snentry: word::two(32),
-        sntext: word::two(34),
-        sndata: word::two(36),
-        sntoc: word::two(38),
-        snloader: word::two(40),
-        snbss: word::two(42),
+        snentry: Width::Two.at(32),
+        sntext: Width::Two.at(34),
+        sndata: Width::Two.at(36),
+        sntoc: Width::Two.at(38),
+        snloader: Width::Two.at(40),
+        snbss: Width::Two.at(42),
     }
 }
 
 pub fn symbol_layout(f: Format) -> SymbolLayout
     ensures { result ≡ symbol_layout f }
 {
-    let scnum = word::two(12);
-    let ntype = word::two(14);
-    let sclass = word::one(16);
-    let numaux = word::one(17);
+    let scnum = Width::Two.at(12);
+    let ntype = Width::Two.at(14);
+    let sclass = Width::One.at(16);
+    let numaux = Width::One.at(17);
     match f {
         Format::Xcoff32 => SymbolLayout {
-            offset: word::four(4),
-            value: word::four(8),
+            offset: Width::Four.at(4),
+            value: Width::Four.at(8),
             scnum,
             ntype,
             sclass,
             numaux,
         },
         Format::Xcoff64 => SymbolLayout {
-            offset: word::four(8),
-            value: word::eight(0),
+            offset: Width::Four.at(8),
+            value: Width::Eight.at(0),
             scnum,
             ntype,
             sclass,
@@ -296,7 +290,7 @@ pub fn symbol_layout(f: Format) -> SymbolLayout
 pub fn short_name() -> Field
     ensures { result ≡ short_name }
 {
-    word::eight(0)
+    Width::Eight.at(0)
 }
 
 pub fn loader_layout(f: Format) -> LoaderLayout
@@ -304,15 +298,15 @@ pub fn loader_layout(f: Format) -> LoaderLayout
 {
     match f {
         Format::Xcoff32 => LoaderLayout {
-            impoff: word::four(20),
-            stlen: word::four(24),
-            stoff: word::four(28),
+            impoff: Width::Four.at(20),
+            stlen: Width::Four.at(24),
+            stoff: Width::Four.at(28),
             length: 32,
         },
         Format::Xcoff64 => LoaderLayout {
-            impoff: word::eight(24),
-            stlen: word::four(20),
-            stoff: word::eight(32),
+            impoff: Width::Eight.at(24),
+            stlen: Width::Four.at(20),
+            stoff: Width::Eight.at(32),
             length: 56,
         },
     }
@@ -323,13 +317,13 @@ pub fn relocation_layout(f: Format) -> RelocationLayout
 {
     match f {
         Format::Xcoff32 => RelocationLayout {
-            address: word::four(0),
-            symbol: word::four(4),
+            address: Width::Four.at(0),
+            symbol: Width::Four.at(4),
             length: 12,
         },
         Format::Xcoff64 => RelocationLayout {
-            address: word::eight(0),
-            symbol: word::four(12),
+            address: Width::Eight.at(0),
+            symbol: Width::Four.at(12),
             length: 16,
         },
     }
@@ -344,7 +338,7 @@ pub fn read_name_field(file: &[u8], f: Format, base: usize) -> NameField
     let offset = l.offset;
     match f {
         Format::Xcoff32 => {
-            if word::read_field(file, base, word::four(0)) == 0 {
+            if word::read_field(file, base, Width::Four.at(0)) == 0 {
                 return NameField::Offset(word::read_field(file, base, offset));
             }
             NameField::Short

@@ -11,18 +11,12 @@ use borrow.Author.Tests.{le-ltb, ltb-false, eq-eqb, ne_eqb, eqb-false, leb-true}
 use Rattle.word.specs.Number.{field_at, field_in}
 use Rattle.format.specs.declared.Format.{Format}
 use Rattle.format.specs.declared.Format.TheVariants.{Xcoff32, Xcoff64}
-use Rattle.format.specs.declared.MagicAnswer.{MagicAnswer}
-use Rattle.format.specs.declared.MagicAnswer.TheVariants.{Known, Unknown}
 use Rattle.format.specs.Layout.{magic_field, format_of, header_layout, section_layout}
 use Rattle.format.specs.Limit.{file_limit}
 use Rattle.refusal.specs.declared.Refusal.TheVariants as refusal
 use Rattle.refusal.specs.declared.LimitItem.TheVariants.{File}
-use Rattle.refusal.specs.declared.Verdict.{Verdict}
-use Rattle.refusal.specs.declared.Verdict.TheVariants.{Accepted}
 use Rattle.refusal.specs.Order.{◌or_else◌, refuse_if, first_of}
 use Rattle.refusal.proofs.Order.{accepted-first, accepted-rest, accepted-test, not-accepted, first-all}
-use Rattle.section.specs.declared.SectionAnswer.{SectionAnswer}
-use Rattle.section.specs.declared.SectionAnswer.TheVariants as section
 use Rattle.file_header.specs.declared.FileHeader.{FileHeader}
 use Rattle.file_header.specs.Header.{header_at, header_check, section_start}
 use Rattle.file_tables.specs.Tables.{judged_at, verdict_of, record_of, sections_check, sections_of, symbols_check, symbols_end, strings_check, strings_length, symbol_table}
@@ -34,16 +28,20 @@ use Rattle.visibility.specs.Visibility.{version_by, has_version2}
 use Rattle.frame.specs.Same.{Same}
 use Rattle.frame.proofs.Same.{same-within, same_number}
 use Rattle.frame.proofs.Readers.{header-same, section-same, cond_same}
+use Rattle.std.specs.Prelude.{Err, None, Ok, Option, Result, Some}
+use Rattle.refusal.specs.declared.Refusal.{Refusal}
+use Rattle.section.specs.declared.Section.{Section}
+use Rattle.refusal.specs.Verdict.{Verdict}
 
 -- ---- an accepted file, check by check
 
 pub record Reads (f : Format) (file : List ℕ) : Type 0 where
   pub small : length file ≤ file_limit
   pub long : 2 ≤ length file
-  pub magic : format_of (field_in magic_field 0 file) ≡ Known f
-  pub header : header_check f file ≡ Accepted
-  pub sections : sections_check file (header_at f file) ≡ Accepted
-  pub symbols : symbols_check file (header_at f file) ≡ Accepted
+  pub magic : format_of (field_in magic_field 0 file) ≡ Some f
+  pub header : header_check f file ≡ Ok tt
+  pub sections : sections_check file (header_at f file) ≡ Ok tt
+  pub symbols : symbols_check file (header_at f file) ≡ Ok tt
 
 -- a file that passes each check opens to its summary
 pub reads-opened : (f : Format) (file : List ℕ) → Reads f file → open_of file ≡ accepted_with (summary_as f file)
@@ -52,7 +50,7 @@ reads-opened f file r =
     rw (le-ltb file_limit (length file) r.small, le-ltb (length file) 2 r.long, r.magic, r.header, r.sections, r.symbols) refl
 
 -- an accepted file passes each check
-pub opened-reads : (file : List ℕ) → (open_of file).verdict ≡ Accepted → (f : Format) × Reads f file
+pub opened-reads : (file : List ℕ) → (open_of file).verdict ≡ Ok tt → (f : Format) × Reads f file
 opened-reads file e = by-magic (format_of (field_in magic_field 0 file)) refl (magic-accepted file e)
   where
     long : 2 ≤ length file
@@ -60,11 +58,11 @@ opened-reads file e = by-magic (format_of (field_in magic_field 0 file)) refl (m
         ltb-false (length file) 2
         (accepted-test (ltb (length file) 2) refusal.Short (accepted-first (refuse_if (ltb (length file) 2) refusal.Short) _ (accepted-rest (refuse_if (ltb file_limit (length file)) (refusal.Limit File)) _ (checks file e))))
 
-    by-magic : (a : MagicAnswer) → format_of (field_in magic_field 0 file) ≡ a → magic_check file a ≡ Accepted → (f : Format) × Reads f file
-    by-magic Unknown q k = not-accepted k
-    by-magic (Known f) q k =
+    by-magic : (a : Option Format) → format_of (field_in magic_field 0 file) ≡ a → magic_check file a ≡ Ok tt → (f : Format) × Reads f file
+    by-magic None q k = not-accepted k
+    by-magic (Some f) q k =
         let h = header_at f file in
-        let c : (header_check f file or_else sections_check file h or_else symbols_check file h) ≡ Accepted = unfold format_check in k in
+        let c : (header_check f file or_else sections_check file h or_else symbols_check file h) ≡ (Ok tt) = unfold format_check in k in
         let r = accepted-rest (header_check f file) _ c in (
           f,
           record {
@@ -138,7 +136,7 @@ module _ (f : Format) (xs ys : List ℕ) (l : length xs ≡ length ys)
   checks-alike = first-same (λ i. verdict_of (judged_at xs h i)) (λ i. verdict_of (judged_at ys h i)) 0 h.nscns (λ k b. ap verdict_of (judged-alike k (omega arith)))
 
   -- a file with the magic number of f that passes each check, and one that agrees with it
-  pub reads_same : Reads f xs → format_of (field_in magic_field 0 ys) ≡ Known f → Reads f ys
+  pub reads_same : Reads f xs → format_of (field_in magic_field 0 ys) ≡ Some f → Reads f ys
   unfolding header_check
   reads_same r m =
       record {
@@ -146,8 +144,8 @@ module _ (f : Format) (xs ys : List ℕ) (l : length xs ≡ length ys)
         long = rw l at r.long;
         magic = m;
         header = rw (header-alike, l) at r.header;
-        sections = subst (λ (t : FileHeader). sections_check ys t ≡ Accepted) header-alike (sym checks-alike ∙ r.sections);
-        symbols = subst (λ (t : FileHeader). symbols_check ys t ≡ Accepted) header-alike (sym (symbols-same h xs ys l strings) ∙ r.symbols);
+        sections = subst (λ (t : FileHeader). sections_check ys t ≡ Ok tt) header-alike (sym checks-alike ∙ r.sections);
+        symbols = subst (λ (t : FileHeader). symbols_check ys t ≡ Ok tt) header-alike (sym (symbols-same h xs ys l strings) ∙ r.symbols);
       }
 
   pub summary-same : summary_as f xs ≡ summary_as f ys
@@ -191,7 +189,7 @@ unfolding summary_as summary_with symbol_table
 strings-of f file z = rw (ne_eqb (header_at f file).nsyms 0 z) refl
 
 -- files of one length that agree on the header area and, where there are symbols, on the string table's four length bytes open to the same answer
-pub open-same : (xs ys : List ℕ) → length xs ≡ length ys → (open_of xs).verdict ≡ Accepted → Same 0 (header_length (open_of xs).summary) xs ys
+pub open-same : (xs ys : List ℕ) → length xs ≡ length ys → (open_of xs).verdict ≡ Ok tt → Same 0 (header_length (open_of xs).summary) xs ys
     → (((open_of xs).summary.symbols.count ≡ 0 → ⊥) → Same (open_of xs).summary.symbols.strings.start.0 4 xs ys) → open_of xs ≡ open_of ys
 open-same xs ys l e area strings = by-format (opened-reads xs e).0 (opened-reads xs e).1
   where
@@ -202,21 +200,21 @@ open-same xs ys l e area strings = by-format (opened-reads xs e).0 (opened-reads
         let a : Same 0 (section_start f h.opthdr h.nscns) xs ys = rw (q, area_of f xs) at area in
         let n : (open_of xs).summary.symbols.count ≡ h.nsyms = rw q (count_of f xs (ℕ_discrete h.nsyms 0)) in
         let s : (h.nsyms ≡ 0 → ⊥) → Same (symbols_end h) 4 xs ys = λ z. rw (q, strings-of f xs z) at (strings (λ c. z (sym n ∙ c))) in
-        let m : format_of (field_in magic_field 0 ys) ≡ Known f = ap format_of (sym (magic-same f h.opthdr h.nscns a)) ∙ r.magic in
+        let m : format_of (field_in magic_field 0 ys) ≡ Some f = ap format_of (sym (magic-same f h.opthdr h.nscns a)) ∙ r.magic in
         reads-opened f xs r ∙ ap accepted_with (summary-same f xs ys l a s) ∙ sym (reads-opened f ys (reads_same f xs ys l a s r m))
 
 -- ---- the section records of an accepted file
 
 -- where each check accepts, so do all
-pub accept-all : (f : ℕ → Verdict) (i n : ℕ) → ((k : ℕ) → k < i + n → f k ≡ Accepted) → first_of f i n ≡ Accepted
+pub accept-all : (f : ℕ → Verdict) (i n : ℕ) → ((k : ℕ) → k < i + n → f k ≡ Ok tt) → first_of f i n ≡ Ok tt
 unfolding first_of
 accept-all f i zero h = refl
 accept-all f i (suc n) h = rw (h i (omega arith)) (accept-all f (suc i) n (λ k b. h k (omega arith)))
 
-answer-found : (a : SectionAnswer) → verdict_of a ≡ Accepted → a ≡ section.Found (record_of a)
-answer-found (section.Found s) e = refl
-answer-found (section.Refused x) e = not-accepted e
+answer-found : (a : Result Section Refusal) → verdict_of a ≡ Ok tt → a ≡ Ok (record_of a)
+answer-found (Ok s) e = refl
+answer-found (Err x) e = not-accepted e
 
-pub judged-found : (file : List ℕ) (h : FileHeader) → sections_check file h ≡ Accepted → (i : ℕ) → i < h.nscns → judged_at file h i ≡ section.Found (record_of (judged_at file h i))
+pub judged-found : (file : List ℕ) (h : FileHeader) → sections_check file h ≡ Ok tt → (i : ℕ) → i < h.nscns → judged_at file h i ≡ Ok (record_of (judged_at file h i))
 unfolding sections_check
 judged-found file h e i b = answer-found (judged_at file h i) (first-all (λ j. verdict_of (judged_at file h j)) h.nscns 0 e i (omega arith) (omega arith))

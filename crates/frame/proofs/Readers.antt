@@ -11,7 +11,6 @@ use Rattle.word.proofs.Test.{or-first, or-second, past-not}
 use Rattle.format.specs.declared.FileRange.{FileRange}
 use Rattle.format.specs.declared.NameField.{NameField}
 use Rattle.format.specs.declared.NameField.TheVariants.{Short, Offset}
-use Rattle.refusal.specs.declared.RangeAnswer.TheVariants.{Found}
 use Rattle.word.specs.declared.Width.TheVariants as width
 use Rattle.word.specs.declared.Width.TheVariants.{Two, Four, Eight}
 use Rattle.word.specs.Number.{field_at, field}
@@ -26,14 +25,13 @@ use Rattle.auxiliary.specs.Auxiliary.{aux_at}
 use Rattle.loader_header.specs.Header.{loader_header_at, symbols_offset, relocations_offset}
 use Rattle.loader_symbol.specs.Symbol as symbol
 use Rattle.relocation.specs.Relocation as relocation
-use Rattle.debug_section.specs.declared.DebugSection.{DebugSection}
-use Rattle.debug_section.specs.declared.DebugSection.TheVariants.{One, NotOne}
 use Rattle.debug_section.specs.Debug.{length_field, length_width, length_at, leaves, has_string}
 use Rattle.symbol.specs.Entry as entry
 use Rattle.symbol.specs.Name as name
 use Rattle.format.specs.declared.SymbolIndex.{SymbolIndex}
 use Rattle.frame.specs.Same.{Same}
 use Rattle.frame.proofs.Same.{same-within, same_number, same-field, same_text}
+use Rattle.std.specs.Prelude.{None, Ok, Option, Some}
 
 -- the file header
 pub header-same : (f : Format) {xs ys : List ℕ} → Same 0 (header_layout f).length xs ys → header_at f xs ≡ header_at f ys
@@ -170,7 +168,7 @@ string-same r o i {xs} {ys} e =
 pub loader-name-same : (r : FileRange) (base i : ℕ) (a : NameField) {xs ys : List ℕ} → Same base loader_symbol_length xs ys → Same r.start.0 r.length xs ys
     → symbol.name_in xs r base i a ≡ symbol.name_in ys r base i a
 unfolding symbol.name_in
-loader-name-same r base i Short d e = ap Found (same_text short_name (lit≤ tt) d)
+loader-name-same r base i Short d e = ap Ok (same_text short_name (lit≤ tt) d)
 loader-name-same r base i (Offset o) d e = string-same r o i e
 
 -- ---- tables whose judging takes the table's bytes already: the law is one rewrite
@@ -215,11 +213,11 @@ leaves-same f d o {xs} {ys} e = by_tests (ltb o (length_width f)) (ltb d.length 
     by_tests false true a b = refl
     by_tests false false a b = rw (debug-length-same f d o (ltb-false o (length_width f) a) (ltb-false d.length o b) e) refl
 
-abbrev pub SameDebug : DebugSection → List ℕ → List ℕ → Type 0
-SameDebug NotOne xs ys = Unit {0}
-SameDebug (One d) xs ys = Same d.start.0 d.length xs ys
+abbrev pub SameDebug : Option FileRange → List ℕ → List ℕ → Type 0
+SameDebug None xs ys = Unit {0}
+SameDebug (Some d) xs ys = Same d.start.0 d.length xs ys
 
-pub has-string-same : (f : Format) (d : DebugSection) (o : ℕ) (xs ys : List ℕ) → SameDebug d xs ys → has_string f xs d o ≡ has_string f ys d o
+pub has-string-same : (f : Format) (d : Option FileRange) (o : ℕ) (xs ys : List ℕ) → SameDebug d xs ys → has_string f xs d o ≡ has_string f ys d o
 unfolding has_string
-has-string-same f NotOne o xs ys e = refl
-has-string-same f (One d) o xs ys e = ap not (leaves-same f d o e)
+has-string-same f None o xs ys e = refl
+has-string-same f (Some d) o xs ys e = ap not (leaves-same f d o e)

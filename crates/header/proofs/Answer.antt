@@ -6,14 +6,11 @@ use Prim.Native.Nat.{ℕ, ◌<◌, ◌≤◌}
 use lib.ListN.{length}
 use borrow.Author.Tests.{lt-ltb, le-ltb}
 use Rattle.word.specs.Number.{field_in}
-use Rattle.format.specs.declared.MagicAnswer.TheVariants.{Known, Unknown}
 use Rattle.format.specs.Layout.{magic_field, format_of}
 use Rattle.format.specs.Limit.{file_limit}
 use Rattle.refusal.specs.declared.Refusal.TheVariants.{Short, Magic, Limit}
 use Rattle.refusal.specs.declared.LimitItem.TheVariants.{File}
 use Rattle.format.specs.declared.Format.{Format}
-use Rattle.refusal.specs.declared.Verdict.{Verdict}
-use Rattle.refusal.specs.declared.Verdict.TheVariants.{Accepted, Refused}
 use Rattle.refusal.specs.Refusal.{is_refused}
 use Rattle.refusal.specs.Order.{by_verdict}
 use Rattle.refusal.proofs.Order.{accepts, go_on, stop}
@@ -24,20 +21,22 @@ use Rattle.header.specs.declared.Summary.{Summary}
 use Rattle.file_header.specs.Header.{header_at, header_check}
 use Rattle.file_tables.specs.Tables.{sections_check, sections_of, refused_scan, scan_of, symbols_check}
 use Rattle.header.specs.Open.{blank_summary, summary_with, format_check, open_check, refused_by, accepted_with, summary_as, open_of}
+use Rattle.std.specs.Prelude.{Err, None, Ok, Some}
+use Rattle.refusal.specs.Verdict.{Verdict}
 
 pub opened-refused : (v : Verdict) (y : Summary) → is_refused v ≡ true → record { verdict = v; summary = blank_summary } ≡ by_verdict v (accepted_with y) refused_by
-opened-refused Accepted y e = cc
-opened-refused (Refused x) y e = refl
+opened-refused (Ok tt) y e = cc
+opened-refused (Err x) y e = refl
 
 pub opened-accepted : (v : Verdict) (y : Summary) → is_refused v ≡ false → accepted_with y ≡ by_verdict v (accepted_with y) refused_by
-opened-accepted Accepted y e = refl
-opened-accepted (Refused x) y e = cc
+opened-accepted (Ok tt) y e = refl
+opened-accepted (Err x) y e = cc
 
 -- the two parts of a scan
-scan-by : (v : Verdict) (t : List Section) → (by_verdict v (record { verdict = Accepted; sections = t }) refused_scan).verdict ≡ v
+scan-by : (v : Verdict) (t : List Section) → (by_verdict v (record { verdict = Ok tt; sections = t }) refused_scan).verdict ≡ v
 unfolding refused_scan
-scan-by Accepted t = refl
-scan-by (Refused x) t = refl
+scan-by (Ok tt) t = refl
+scan-by (Err x) t = refl
 
 scan-verdict : (file : List ℕ) (h : FileHeader) → (scan_of file h).verdict ≡ sections_check file h
 unfolding scan_of
@@ -82,10 +81,10 @@ module _ (file : List ℕ) where
     open-short k = rw (le-ltb file_limit (length file) h, lt-ltb (length file) 2 k)
 
     module _ (k : 2 ≤ length file) where
-      pub open_unknown : format_of (field_in magic_field 0 file) ≡ Unknown → refused_by Magic ≡ open_of file
+      pub open_unknown : format_of (field_in magic_field 0 file) ≡ None → refused_by Magic ≡ open_of file
       unfolding open_of open_check
       open_unknown e = rw (le-ltb file_limit (length file) h, le-ltb (length file) 2 k, e)
 
-      pub open-known : (f : Format) → format_of (field_in magic_field 0 file) ≡ Known f → by_verdict (format_check f file) (accepted_with (summary_as f file)) refused_by ≡ open_of file
+      pub open-known : (f : Format) → format_of (field_in magic_field 0 file) ≡ Some f → by_verdict (format_check f file) (accepted_with (summary_as f file)) refused_by ≡ open_of file
       unfolding open_of open_check
       open-known f e = rw (le-ltb file_limit (length file) h, le-ltb (length file) 2 k, e)

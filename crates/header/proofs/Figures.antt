@@ -10,12 +10,12 @@ use Rattle.format.specs.declared.Format.TheVariants.{Xcoff32}
 use Rattle.section_kind.specs.declared.SectionKind.TheVariants.{Text}
 use Rattle.section_kind.specs.Kind.{listed_kind, kind_of}
 use Rattle.format.specs.Layout.{format_of}
-use Rattle.refusal.specs.declared.Verdict.TheVariants.{Accepted}
 use Rattle.refusal.specs.Order.{first_of}
 use Rattle.section.specs.Section.{section_header_at, has_raw_data, raw_data_past, misplaced, section_of, judge_kind, judge_section}
 use Rattle.file_header.specs.Header.{header_at, section_start, header_check}
 use Rattle.file_tables.specs.Tables.{blank_sections, judged_at, sections_check, sections_of, symbols_check, table_at, symbol_table}
 use Rattle.header.specs.Open.{summary_with, format_check, open_check, summary_as, open_of}
+use Rattle.std.specs.Prelude.{Ok}
 
 -- 64 bytes: the magic number, one section, zeros to byte 20; `.text` padded to 8, 10000000 twice, size 4, pointer 60, zeros, flags 20; four bytes
 unfoldable pub example : List ℕ
@@ -30,7 +30,7 @@ example =
     ++ (1 ∷ 2 ∷ 3 ∷ 4 ∷ [])
 
 pub example-opens : open_of example ≡ record {
-  verdict = Accepted;
+  verdict = Ok tt;
   summary = record {
     format = Xcoff32;
     count = 1;

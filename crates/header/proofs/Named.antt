@@ -1,7 +1,7 @@
 -- What opening's refusals name is there, and what an opened file's symbols are. Assumes nothing.
 use Prim.Native.Nat.{ℕ, ◌+◌, ◌*◌, ◌≤◌, ◌<◌}
 use mathlib.Core.Path.{◌≡◌, refl, sym, ◌∙◌}
-use mathlib.Core.Bool.{Bool, true, false, cond, ◌&&◌}
+use mathlib.Core.Bool.{◌&&◌}
 use mathlib.Core.List.{List}
 use native.Mathlib.Omega.{arith}
 use native.Mathlib.Decide.{ℕ_discrete}
@@ -11,12 +11,8 @@ use lib.ListN.{length, get_or}
 use Rattle.word.specs.Number.{field_in, field_at}
 use Rattle.word.specs.Test.{past}
 use Rattle.word.proofs.Test.{past-not, either}
-use Rattle.section_kind.specs.declared.KindAnswer.{KindAnswer}
-use Rattle.section_kind.specs.declared.KindAnswer.TheVariants.{Allowed, NotAllowed}
 use Rattle.section_kind.specs.Kind.{kind_of}
 use Rattle.format.specs.declared.Format.{Format}
-use Rattle.format.specs.declared.MagicAnswer.{MagicAnswer}
-use Rattle.format.specs.declared.MagicAnswer.TheVariants.{Known, Unknown}
 use Rattle.format.specs.Layout.{magic_field, format_of, header_layout, symbol_length}
 use Rattle.format.specs.Limit.{file_limit, section_limit}
 use Rattle.refusal.specs.declared.BoundsItem.TheVariants as bounds
@@ -24,14 +20,11 @@ use Rattle.refusal.specs.declared.AddressItem.TheVariants as address
 use Rattle.refusal.specs.declared.LimitItem.TheVariants.{File, Sections}
 use Rattle.refusal.specs.declared.Refusal.{Refusal}
 use Rattle.refusal.specs.declared.Refusal.TheVariants.{Short, Magic, Limit, Kind, Bounds, Address, Strings}
-use Rattle.refusal.specs.declared.Verdict.{Verdict}
-use Rattle.refusal.specs.declared.Verdict.TheVariants as verdict
-use Rattle.refusal.specs.Order.{◌or_else◌, refuse_if}
+use Rattle.refusal.specs.Order.{refuse_if}
 use Rattle.refusal.proofs.Order.{not-accepted, accepted-first, accepted-rest, accepted-most, first-all}
-use Rattle.refusal.proofs.Causes.{Causes, cause-if, cause-test, cause-then, cause-first, cause-of}
-use Rattle.section.specs.declared.SectionAnswer.{SectionAnswer}
+use Rattle.refusal.proofs.Causes.{Causes, cause-if, cause-test, cause-then, cause-first}
 use Rattle.section.specs.declared.SectionHeader.{SectionHeader}
-use Rattle.section.specs.Section.{section_header_at, raw_data_past, misplaced, judge_kind, judge_section, section_of}
+use Rattle.section.specs.Section.{section_header_at, raw_data_past, misplaced, judge_kind, judge_section}
 use Rattle.file_header.specs.declared.FileHeader.{FileHeader}
 use Rattle.file_header.specs.Header.{header_at, header_check, section_start}
 use Rattle.file_header.proofs.Checked.{few}
@@ -40,8 +33,10 @@ use Rattle.offset.specs.Named.{NamesHeader, NamesSymbol, Named}
 use Rattle.offset.proofs.Named.{Headed, plain-named, named_by, header-named, symbol-named, strings-named}
 use Rattle.file_tables.specs.Tables.{blank_section, judged_at, verdict_of, record_of, sections_check, symbols_end, strings_check, symbols_check, symbol_table}
 use Rattle.file_tables.proofs.Symbols.{symbols-inside}
-use Rattle.header.specs.Open.{format_check, magic_check, open_check, accepted_with, refused_by, summary_with, summary_as, summary_by, open_of}
+use Rattle.header.specs.Open.{format_check, magic_check, open_check, summary_with, summary_as, summary_by, open_of}
 use Rattle.header.proofs.Accepted.{section-record, open-verdict, small-file, magic-accepted, checks}
+use Rattle.std.specs.Prelude.{None, Ok, Option, Some}
+use Rattle.section_kind.specs.declared.SectionKind.{SectionKind}
 
 module _ (file : List ℕ) where
   abbrev P : Refusal → Type 0
@@ -54,10 +49,10 @@ module _ (file : List ℕ) where
     h = header_at f file
 
     -- section i + 1
-    by_kind : (i : ℕ) → i < h.nscns → (s : SectionHeader) (k : KindAnswer) → Causes P (verdict_of (judge_kind h.format (length file) s (record { 0 = i + 1 }) k))
+    by_kind : (i : ℕ) → i < h.nscns → (s : SectionHeader) (k : Option SectionKind) → Causes P (verdict_of (judge_kind h.format (length file) s (record { 0 = i + 1 }) k))
     unfolding judge_kind
-    by_kind i p s NotAllowed = named_by file f g (Kind (record { 0 = i + 1 })) (header-named file f g (i + 1) (omega arith) (omega arith))
-    by_kind i p s (Allowed k) =
+    by_kind i p s None = named_by file f g (Kind (record { 0 = i + 1 })) (header-named file f g (i + 1) (omega arith) (omega arith))
+    by_kind i p s (Some k) =
         either (λ a. Causes P (verdict_of a)) (raw_data_past k (length file) s) (λ _. named_by file f g (Bounds (bounds.RawData (record { 0 = i + 1 }))) (header-named file f g (i + 1) (omega arith) (omega arith)))
         (λ _. either (λ a. Causes P (verdict_of a)) (misplaced h.format k s) (λ _. named_by file f g (Address (address.Misplaced (record { 0 = i + 1 }))) (header-named file f g (i + 1) (omega arith) (omega arith)))
         (λ _. tt))
@@ -97,10 +92,10 @@ module _ (file : List ℕ) where
       (λ _. cause-if P (ltb (length file) (section_start f h.opthdr h.nscns)) Short (λ _. plain-named file Short (λ s. refl) (λ _ e. e))))
 
   module _ (small : length file ≤ file_limit) (two : 2 ≤ length file) where
-    by-magic : (a : MagicAnswer) → format_of (field_in magic_field 0 file) ≡ a → Causes P (magic_check file a)
+    by-magic : (a : Option Format) → format_of (field_in magic_field 0 file) ≡ a → Causes P (magic_check file a)
     unfolding format_check
-    by-magic Unknown m = plain-named file Magic (λ s. refl) (λ _ e. e)
-    by-magic (Known f) m =
+    by-magic None m = plain-named file Magic (λ s. refl) (λ _ e. e)
+    by-magic (Some f) m =
         cause-then P (header_check f file) _ (header-check-named f)
         (λ e. let g : Headed file f = record { small = small; two = two; magic = m; headers = e } in
         cause-then P (sections_check file (header_at f file)) _ (sections-named f g) (λ _. symbols-named f g))
@@ -117,14 +112,14 @@ module _ (file : List ℕ) where
 
 -- its format, and what its checks have left known
 pub record Opens (file : List ℕ) : Type 0 where
-  pub accepted : (open_of file).verdict ≡ verdict.Accepted
+  pub accepted : (open_of file).verdict ≡ Ok tt
   pub format : Format
   pub headed : Headed file format
-  pub sections : sections_check file (header_at format file) ≡ verdict.Accepted
-  pub symbols : symbols_check file (header_at format file) ≡ verdict.Accepted
+  pub sections : sections_check file (header_at format file) ≡ Ok tt
+  pub symbols : symbols_check file (header_at format file) ≡ Ok tt
   pub summary : (open_of file).summary ≡ summary_as format file
 
-module _ (file : List ℕ) (e : (open_of file).verdict ≡ verdict.Accepted) where
+module _ (file : List ℕ) (e : (open_of file).verdict ≡ Ok tt) where
   two_bytes : 2 ≤ length file
   two_bytes =
       accepted-most (length file) 2 Short (accepted-first (refuse_if (ltb (length file) 2) Short) _ (accepted-rest (refuse_if (ltb file_limit (length file)) (Limit File)) _ (checks file e)))
@@ -133,10 +128,10 @@ module _ (file : List ℕ) (e : (open_of file).verdict ≡ verdict.Accepted) whe
   unfolding open_of
   summary-is = rw (sym (open-verdict file) ∙ e) refl
 
-  opens_by : (a : MagicAnswer) → format_of (field_in magic_field 0 file) ≡ a → magic_check file a ≡ verdict.Accepted → (open_of file).summary ≡ summary_by file a → Opens file
+  opens_by : (a : Option Format) → format_of (field_in magic_field 0 file) ≡ a → magic_check file a ≡ Ok tt → (open_of file).summary ≡ summary_by file a → Opens file
   unfolding format_check
-  opens_by Unknown m k y = not-accepted k
-  opens_by (Known f) m k y =
+  opens_by None m k y = not-accepted k
+  opens_by (Some f) m k y =
       let h = header_at f file in
       let r = accepted-rest (header_check f file) _ k in
       record {
@@ -164,7 +159,7 @@ module _ (file : List ℕ) (o : Opens file) where
   count-is = rw o.summary refl
 
   -- a section that it has is accepted, and its record is the one that was judged
-  pub section-accepted : (i : ℕ) → i < (header_at f file).nscns → verdict_of (judged_at file (header_at f file) i) ≡ verdict.Accepted
+  pub section-accepted : (i : ℕ) → i < (header_at f file).nscns → verdict_of (judged_at file (header_at f file) i) ≡ Ok tt
   unfolding sections_check
   section-accepted i p = let h = header_at f file in first-all (λ j. verdict_of (judged_at file h j)) h.nscns 0 o.sections i (omega arith) (omega arith)
 

@@ -10,9 +10,10 @@ ghost use Rattle.header.specs.Open.{blank_summary, summary_with, format_check, r
 
 use file_header::FileHeader;
 use file_tables::SymbolTable;
-use format::{FileOffset, FileRange, Format, MagicAnswer};
-use refusal::{Head, LimitItem, Refusal, Verdict};
+use format::{FileOffset, FileRange, Format};
+use refusal::{Head, LimitItem, Refusal};
 use section::Section;
+use word::Width;
 
 // What an opened file holds: one record for each of the up to 32 sections, and blank records after them.
 #[derive(Clone, Copy)]
@@ -25,9 +26,10 @@ pub struct Summary {
     pub flags: u64,
 }
 
+// Not a `Result`: the clause `cause` of `open` says that the summary of a refused file is blank.
 #[derive(Clone, Copy)]
 pub struct Opened {
-    pub verdict: Verdict,
+    pub verdict: Result<(), Refusal>,
     pub summary: Summary,
 }
 
@@ -43,7 +45,7 @@ pub struct OpenReport {
     pub flags: u64,
 }
 
-fn refuse(v: Verdict) -> Opened
+fn refuse(v: Result<(), Refusal>) -> Opened
     ensures { result ≡ record { verdict = v; summary = blank_summary } }
 {
     let blank = file_tables::blank_section();
@@ -75,7 +77,7 @@ fn open_symbols(file: &[u8], h: FileHeader, sections: [Section; 32]) -> Opened
     ensures { result ≡ by_verdict (symbols_check file.now h) (accepted_with (summary_with file.now h sections)) refused_by }
 {
     let v = file_tables::check_symbols(file, h);
-    if refusal::refuses(v) {
+    if v.is_err() {
         return refuse(v);
     }
     let symbols = file_tables::find_symbols(file, h);
@@ -89,7 +91,7 @@ fn open_symbols(file: &[u8], h: FileHeader, sections: [Section; 32]) -> Opened
         flags: h.flags,
     };
     Opened {
-        verdict: Verdict::Accepted,
+        verdict: Ok(()),
         summary,
     }
 }
@@ -99,13 +101,13 @@ fn open_as(file: &[u8], f: Format) -> Opened
     ensures { result ≡ by_verdict (format_check f file.now) (accepted_with (summary_as f file.now)) refused_by }
 {
     let v = file_header::check_header(file, f);
-    if refusal::refuses(v) {
+    if v.is_err() {
         return refuse(v);
     }
     let h = file_header::read_header(file, f);
     let scan = file_tables::scan_sections(file, h);
     let w = scan.verdict;
-    if refusal::refuses(w) {
+    if w.is_err() {
         return refuse(w);
     }
     let sections = scan.sections;
@@ -119,25 +121,25 @@ pub fn open(file: &[u8]) -> Opened
 {
     let len = file.len();
     if format::FILE_LIMIT < len {
-        return refuse(Verdict::Refused(Refusal::Limit(LimitItem::File)));
+        return refuse(Err(Refusal::Limit(LimitItem::File)));
     }
     if len < 2 {
-        return refuse(Verdict::Refused(Refusal::Short));
+        return refuse(Err(Refusal::Short));
     }
-    let a = format::format_of(word::read_field(file, 0, word::two(0)));
+    let a = format::format_of(word::read_field(file, 0, Width::Two.at(0)));
     match a {
-        MagicAnswer::Unknown => refuse(Verdict::Refused(Refusal::Magic)),
-        MagicAnswer::Known(f) => open_as(file, f),
+        None => refuse(Err(Refusal::Magic)),
+        Some(f) => open_as(file, f),
     }
 }
 
 // A refused file has no format.
-fn bits_by(v: Verdict, f: Format) -> u64
+fn bits_by(v: Result<(), Refusal>, f: Format) -> u64
     ensures { result ≡ if_accepted v (bits_of f) 0 }
 {
     match v {
-        Verdict::Accepted => format::bits_of(f),
-        Verdict::Refused(_) => 0,
+        Ok(()) => format::bits_of(f),
+        Err(_) => 0,
     }
 }
 

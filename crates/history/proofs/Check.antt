@@ -7,8 +7,6 @@ use lib.Dec.{eqb}
 use lib.ListN.{length}
 use Rattle.refusal.specs.declared.RoomItem.TheVariants.{TextBuffer, DataBuffer}
 use Rattle.refusal.specs.declared.Refusal.TheVariants as refusal
-use Rattle.refusal.specs.declared.Verdict.{Verdict}
-use Rattle.refusal.specs.declared.Verdict.TheVariants.{Accepted}
 use Rattle.refusal.specs.Order.{◌or_else◌, refuse_if}
 use Rattle.refusal.proofs.Order.{accepted-first, accepted-rest, accepted-equal}
 use Rattle.history.specs.Images.{Images, lengths, All, Inside}
@@ -16,20 +14,22 @@ use Rattle.history.specs.Plan.{Relocatable, Plan, Sound, list_check, fit_check, 
 use Rattle.history.specs.Call.{Call, build, move, buffer_room, room_check, call_check, effect, run, Accepts, machine_of}
 use Rattle.book.proofs.Call.{LengthLaws, effect-lengths, run-lengths}
 use Rattle.history.proofs.Apply.{apply_all-lengths, inside-lengths}
+use Rattle.std.specs.Prelude.{Ok}
+use Rattle.refusal.specs.Verdict.{Verdict}
 
 -- ---- the parts of an accepted move
 
 -- the checks of a move, each passed
 record MoveAccepted (m : Relocatable) (tl dl : ℕ) (p q : Plan) : Type 0 where
-  module-accepted : m.verdict ≡ Accepted
-  from_list : list_check m p ≡ Accepted
-  to-list : list_check m q ≡ Accepted
-  from-fits : fit_check m p ≡ Accepted
-  to-fits : fit_check m q ≡ Accepted
-  room : room_check m tl dl ≡ Accepted
+  module-accepted : m.verdict ≡ Ok tt
+  from_list : list_check m p ≡ Ok tt
+  to-list : list_check m q ≡ Ok tt
+  from-fits : fit_check m p ≡ Ok tt
+  to-fits : fit_check m q ≡ Ok tt
+  room : room_check m tl dl ≡ Ok tt
 
 -- an accepted move passed each of its checks
-move-parts : (m : Relocatable) (tl dl : ℕ) (p q : Plan) → call_check m tl dl (move p q) ≡ Accepted → MoveAccepted m tl dl p q
+move-parts : (m : Relocatable) (tl dl : ℕ) (p q : Plan) → call_check m tl dl (move p q) ≡ Ok tt → MoveAccepted m tl dl p q
 unfolding call_check
 move-parts m tl dl p q e =
     let a = accepted-rest m.verdict _ e in
@@ -46,18 +46,18 @@ move-parts m tl dl p q e =
     }
 
 -- an order of two verdicts that accept accepts
-both-accept : {v w : Verdict} → v ≡ Accepted → w ≡ Accepted → (v or_else w) ≡ Accepted
+both-accept : {v w : Verdict} → v ≡ Ok tt → w ≡ Ok tt → (v or_else w) ≡ Ok tt
 both-accept e h = rw e h
 
 -- where a move is accepted, so is the move back
-pub move-back-accepted : (m : Relocatable) (tl dl : ℕ) (p q : Plan) → call_check m tl dl (move p q) ≡ Accepted → call_check m tl dl (move q p) ≡ Accepted
+pub move-back-accepted : (m : Relocatable) (tl dl : ℕ) (p q : Plan) → call_check m tl dl (move p q) ≡ Ok tt → call_check m tl dl (move q p) ≡ Ok tt
 unfolding call_check
 move-back-accepted m tl dl p q e =
     let a = move-parts m tl dl p q e in
     both-accept a.module-accepted (both-accept a.to-list (both-accept a.from_list (both-accept a.to-fits (both-accept a.from-fits a.room))))
 
 -- where a move is accepted, so is a build for the plan that it reaches
-pub build-reached-accepted : (m : Relocatable) (tl dl : ℕ) (p q : Plan) → call_check m tl dl (move p q) ≡ Accepted → call_check m tl dl (build q) ≡ Accepted
+pub build-reached-accepted : (m : Relocatable) (tl dl : ℕ) (p q : Plan) → call_check m tl dl (move p q) ≡ Ok tt → call_check m tl dl (build q) ≡ Ok tt
 unfolding call_check plan_check
 build-reached-accepted m tl dl p q e =
     let a = move-parts m tl dl p q e in
@@ -66,13 +66,13 @@ build-reached-accepted m tl dl p q e =
 -- ---- an accepted call has buffers of the raw images' lengths
 
 -- an accepted call passed ROOM 0 and 1
-room-accepted : (m : Relocatable) (tl dl : ℕ) (c : Call) → call_check m tl dl c ≡ Accepted → room_check m tl dl ≡ Accepted
+room-accepted : (m : Relocatable) (tl dl : ℕ) (c : Call) → call_check m tl dl c ≡ Ok tt → room_check m tl dl ≡ Ok tt
 unfolding call_check
 room-accepted m tl dl (build p) e = accepted-rest (plan_check m p) _ e
 room-accepted m tl dl (move p q) e = (move-parts m tl dl p q e).room
 
 -- buffers that pass ROOM 0 and 1 have the images' lengths
-pub buffer-lengths : (t d tl dl : ℕ) → buffer_room t d tl dl ≡ Accepted → (tl ≡ t) × (dl ≡ d)
+pub buffer-lengths : (t d tl dl : ℕ) → buffer_room t d tl dl ≡ Ok tt → (tl ≡ t) × (dl ≡ d)
 unfolding buffer_room
 buffer-lengths t d tl dl e = (
   accepted-equal tl t (refusal.Room TextBuffer) (accepted-first _ _ e),
@@ -80,7 +80,7 @@ buffer-lengths t d tl dl e = (
 )
 
 -- those of a module the raw images'
-pub room-lengths : (m : Relocatable) (tl dl : ℕ) → room_check m tl dl ≡ Accepted → (tl ≡ length m.raw.text) × (dl ≡ length m.raw.dat)
+pub room-lengths : (m : Relocatable) (tl dl : ℕ) → room_check m tl dl ≡ Ok tt → (tl ≡ length m.raw.text) × (dl ≡ length m.raw.dat)
 unfolding room_check
 room-lengths m tl dl e = buffer-lengths (length m.raw.text) (length m.raw.dat) tl dl e
 

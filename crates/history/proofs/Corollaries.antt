@@ -6,8 +6,6 @@ use Prim.Native.Nat.{ℕ}
 use lib.ListN.{length, get_or}
 use lib.IntN.{pos, ◌-ℤ◌, +ℤ_invr}
 use Rattle.refusal.specs.declared.Refusal.{Refusal}
-use Rattle.refusal.specs.declared.Verdict.{Verdict}
-use Rattle.refusal.specs.declared.Verdict.TheVariants.{Accepted, Refused}
 use Rattle.refusal.proofs.Order.{not-accepted}
 use Rattle.update.specs.Update.{Bytes}
 use Rattle.history.specs.declared.Followed.{Followed}
@@ -24,9 +22,11 @@ use Rattle.history.proofs.Demand3.{module-lawful}
 use Rattle.book.specs.Machine as machine
 use Rattle.book.proofs.Call as calls
 use Rattle.book.proofs.Chain as chains
+use Rattle.std.specs.Prelude.{Err, Ok}
+use Rattle.refusal.specs.Verdict.{Verdict}
 
 -- demand 1: "A refusal changes no byte of any buffer I lend."
-pub refused-nothing : (m : Relocatable) (c : Call) (x : Images) (r : Refusal) → call_check m (length x.text) (length x.dat) c ≡ Refused r → effect m c x ≡ x
+pub refused-nothing : (m : Relocatable) (c : Call) (x : Images) (r : Refusal) → call_check m (length x.text) (length x.dat) c ≡ Err r → effect m c x ≡ x
 unfolding effect
 refused-nothing m = calls.refused-nothing (machine_of m)
 
@@ -135,8 +135,8 @@ unfolding run
 move-back m sound x t d p q = by-verdict (call_check m (length x.text) (length x.dat) (move p q)) refl
   where
     by-verdict : (v : Verdict) → call_check m (length x.text) (length x.dat) (move p q) ≡ v → effect m (move q p) (effect m (move p q) x) ≡ x
-    by-verdict Accepted e = accepted-back m sound x t d p q e
-    by-verdict (Refused r) e =
+    by-verdict (Ok tt) e = accepted-back m sound x t d p q e
+    by-verdict (Err r) e =
         ap (effect m (move q p)) (refused-nothing m (move p q) x r e)
         ∙ calls.effect-either (machine_of m) (λ y. y ≡ x) (move q p) x
         (λ h. not-accepted (sym e ∙ move-back-accepted m (length x.text) (length x.dat) q p h)) (λ s h. refl)

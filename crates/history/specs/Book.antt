@@ -1,7 +1,6 @@
 -- Document 01's book of a module, an instance of the general one.
-use Rattle.std.specs.Prelude.{◌≡◌, List, [], ◌∷◌, ℕ}
+use Rattle.std.specs.Prelude.{◌≡◌, List, [], ◌∷◌, ℕ, Err, Ok}
 use Rattle.refusal.specs.declared.Refusal.{Refusal}
-use Rattle.refusal.specs.declared.Verdict.TheVariants.{Accepted, Refused}
 use Rattle.book.specs.Book as book
 use Rattle.history.specs.Images.{Images}
 use Rattle.history.specs.Plan.{Relocatable, Plan, SamePlan}
@@ -22,5 +21,5 @@ book_images m b = book.book_images (machine_of m) b
 -- accepted call before it reached; r is the last plan so reached
 pub data Chain (m : Relocatable) (tl dl : ℕ) : Plan → List Call → Plan → Type 0 where
   ended : {p : Plan} → Chain m tl dl p [] p
-  moved : {p o q r : Plan} {cs : List Call} → call_check m tl dl (move o q) ≡ Accepted → SamePlan m o p → Chain m tl dl q cs r → Chain m tl dl p (move o q ∷ cs) r
-  passed : {p r : Plan} {c : Call} {cs : List Call} (x : Refusal) → call_check m tl dl c ≡ Refused x → Chain m tl dl p cs r → Chain m tl dl p (c ∷ cs) r
+  moved : {p o q r : Plan} {cs : List Call} → call_check m tl dl (move o q) ≡ Ok tt → SamePlan m o p → Chain m tl dl q cs r → Chain m tl dl p (move o q ∷ cs) r
+  passed : {p r : Plan} {c : Call} {cs : List Call} (x : Refusal) → call_check m tl dl c ≡ Err x → Chain m tl dl p cs r → Chain m tl dl p (c ∷ cs) r

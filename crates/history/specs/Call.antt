@@ -1,17 +1,16 @@
 -- Builds and moves: what a call answers, and what it leaves in the two buffers.
-use Rattle.std.specs.Prelude.{not, List, ℕ, eqb, length, ◌≡◌}
+use Rattle.std.specs.Prelude.{not, List, ℕ, eqb, length, ◌≡◌, Err, Ok, Result}
 use Rattle.refusal.specs.declared.RoomItem.TheVariants.{TextBuffer, DataBuffer}
 use Rattle.refusal.specs.declared.Refusal.TheVariants as refusal
-use Rattle.refusal.specs.declared.Verdict.{Verdict}
-use Rattle.refusal.specs.declared.Verdict.TheVariants.{Accepted}
 use Rattle.refusal.specs.Order.{◌or_else◌, refuse_if, by_verdict}
-use Rattle.history.specs.declared.CallAnswer.{CallAnswer}
-use Rattle.history.specs.declared.CallAnswer.TheVariants as answer
 use Rattle.history.specs.Images.{Images, lengths, apply_all}
 use Rattle.history.specs.Plan.{Relocatable, Plan, list_check, fit_check, plan_check, displacements, differences, reached_by}
 use Rattle.book.specs.Machine.{Machine}
 use Rattle.book.specs.Machine as machine
 pub use Rattle.book.specs.Machine.Call.{build, move}
+use Rattle.refusal.specs.declared.Refusal.{Refusal}
+use Rattle.history.specs.declared.Reached.{Reached}
+use Rattle.refusal.specs.Verdict.{Verdict}
 
 -- a build for a plan, or a move from a plan to another
 abbrev pub Call : Type 0
@@ -38,7 +37,7 @@ call_check m tl dl (move p q) =
 
 -- a call is accepted on buffers of the lengths of x
 abbrev pub Accepts : Relocatable → Images → Call → Type 0
-Accepts m x c = call_check m (length x.text) (length x.dat) c ≡ Accepted
+Accepts m x c = call_check m (length x.text) (length x.dat) c ≡ Ok tt
 
 -- a module's builds and moves, an instance of the general ones: a verdict reads of the buffers the two lengths alone
 abbrev pub machine_of : Relocatable → Machine Images (ℕ × ℕ) Plan
@@ -62,8 +61,8 @@ unfolding accepted
 effect m c x = machine.effect (machine_of m) c x
 
 -- what a call answers
-unfoldable pub answer_of : Relocatable → ℕ → ℕ → Call → CallAnswer
-answer_of m tl dl c = by_verdict (call_check m tl dl c) (answer.Done (reached_by m (plan_reached c))) answer.Refused
+unfoldable pub answer_of : Relocatable → ℕ → ℕ → Call → Result Reached Refusal
+answer_of m tl dl c = by_verdict (call_check m tl dl c) (Ok (reached_by m (plan_reached c))) Err
 
 -- each call on what the last one left
 unfoldable pub run : Relocatable → List Call → Images → Images

@@ -10,9 +10,9 @@ ghost use Rattle.displacement.specs.Reach.{plan_of};
 ghost use Rattle.image.specs.Report.{report_of_call};
 
 use displacement::Addresses;
-use history::CallAnswer;
+use history::Reached;
 use loadable::Loadable;
-use refusal::{Head, Verdict};
+use refusal::{Head, Refusal};
 
 // The entry and TOC addresses in the plan that the call reached; `has_entry` and `has_toc` are 1 where there is one.
 #[repr(C)]
@@ -35,21 +35,16 @@ pub fn build_valid(
     imports: &[u64],
     text: &mut [u8],
     data: &mut [u8],
-) -> CallAnswer
+) -> Result<Reached, Refusal>
     requires { Valid file.now l }
     ensures cause { result ≡ answer_of (relocatable_of file.now l) (length text.old) (length «data».old) (build (plan_of at imports.now)) }
     ensures images { images text.new «data».new ≡ effect (relocatable_of file.now l) (build (plan_of at imports.now)) (images text.old «data».old) }
 {
-    let v = call_check::check_build(file, l, at, imports, text.len(), data.len());
-    match v {
-        Verdict::Refused(x) => CallAnswer::Refused(x),
-        Verdict::Accepted => {
-            raw_image::fill_raw(file, l, text, data);
-            let d = displacement::displacements(at, l);
-            apply_all::apply_all(file, l, d, false, imports, imports, text, data);
-            CallAnswer::Done(displacement::reach(l, at))
-        }
-    }
+    call_check::check_build(file, l, at, imports, text.len(), data.len())?;
+    raw_image::fill_raw(file, l, text, data);
+    let d = displacement::displacements(at, l);
+    apply_all::apply_all(file, l, d, false, imports, imports, text, data);
+    Ok(displacement::reach(l, at))
 }
 
 // A move of a module that is accepted.
@@ -62,12 +57,12 @@ pub fn move_valid(
     to_imports: &[u64],
     text: &mut [u8],
     data: &mut [u8],
-) -> CallAnswer
+) -> Result<Reached, Refusal>
     requires { Valid file.now l }
     ensures cause { result ≡ answer_of (relocatable_of file.now l) (length text.old) (length «data».old) (move (plan_of from from_imports.now) (plan_of to to_imports.now)) }
     ensures images { images text.new «data».new ≡ effect (relocatable_of file.now l) (move (plan_of from from_imports.now) (plan_of to to_imports.now)) (images text.old «data».old) }
 {
-    let v = call_check::check_move(
+    call_check::check_move(
         file,
         l,
         from,
@@ -76,22 +71,17 @@ pub fn move_valid(
         to_imports,
         text.len(),
         data.len(),
-    );
-    match v {
-        Verdict::Refused(x) => CallAnswer::Refused(x),
-        Verdict::Accepted => {
-            let d = displacement::differences(from, to);
-            apply_all::apply_all(file, l, d, true, from_imports, to_imports, text, data);
-            CallAnswer::Done(displacement::reach(l, to))
-        }
-    }
+    )?;
+    let d = displacement::differences(from, to);
+    apply_all::apply_all(file, l, d, true, from_imports, to_imports, text, data);
+    Ok(displacement::reach(l, to))
 }
 
-pub fn report_call(file: &[u8], a: CallAnswer) -> CallReport
+pub fn report_call(file: &[u8], a: Result<Reached, Refusal>) -> CallReport
     ensures { result ≡ report_of_call file.now a }
 {
     match a {
-        CallAnswer::Done(r) => {
+        Ok(r) => {
             let entry = r.entry;
             let toc = r.toc;
             CallReport {
@@ -102,7 +92,7 @@ pub fn report_call(file: &[u8], a: CallAnswer) -> CallReport
                 toc: displacement::address_of(toc),
             }
         }
-        CallAnswer::Refused(x) => CallReport {
+        Err(x) => CallReport {
             head: offset::refusal_head(file, x),
             has_entry: 0,
             entry: 0,

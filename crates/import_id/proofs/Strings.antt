@@ -15,16 +15,11 @@ use Rattle.word.proofs.Zero.{zero-counted, zeros-few}
 use Rattle.format.specs.declared.FileRange.{FileRange}
 use Rattle.format.specs.Limit.{file_limit}
 use Rattle.format.specs.Range.{range, bytes_of}
-use Rattle.refusal.specs.declared.RangeAnswer.TheVariants as range
-use Rattle.refusal.specs.declared.Verdict.{Verdict}
-use Rattle.refusal.specs.declared.Verdict.TheVariants as verdict
 use Rattle.refusal.specs.Part.{Within}
 use Rattle.offset.proofs.Report.{range_inside}
 use Rattle.refusal.proofs.Order.{accepted-test}
 use Rattle.loader_header.specs.declared.LoaderTables.{LoaderTables}
 use Rattle.loadable.specs.declared.Loadable.{Loadable}
-use Rattle.loadable.specs.declared.LoadableAnswer.{LoadableAnswer}
-use Rattle.loadable.specs.declared.LoadableAnswer.TheVariants as loadable
 use Rattle.loadable.specs.Loadable.{loadable_at}
 use Rattle.loadable.specs.Valid.{Valid}
 use Rattle.loadable.proofs.Accepted.{loadable-valid}
@@ -34,6 +29,9 @@ use Rattle.import_id.specs.Import.{id_check, string_start, string_of, place_of, 
 use Rattle.refusal.specs.Order.{by_verdict}
 use Rattle.format.proofs.Ranges.{length_part}
 use Rattle.offset.specs.Report.{report_of_range, InFile}
+use Rattle.std.specs.Prelude.{Err, Ok, Result}
+use Rattle.refusal.specs.declared.Refusal.{Refusal}
+use Rattle.refusal.specs.Verdict.{Verdict}
 
 -- what is left behind the first j strings: a zero less for each
 pub record Left (s : List ℕ) (j : ℕ) : Type 0 where
@@ -111,7 +109,7 @@ module _ (file : List ℕ) (ids : FileRange) (j : ℕ) {at : ℕ} (e : at ≡ st
   string-is q = rw (string-length (bytes_of file ids) j start_is (rw (part-is file ids) at q), start_is) refl
 
 -- the strings of an id that is accepted are there
-pub id-known : (t : LoaderTables) (n : ℕ) → id_check t n ≡ verdict.Accepted → n < t.nimpid
+pub id-known : (t : LoaderTables) (n : ℕ) → id_check t n ≡ Ok tt → n < t.nimpid
 unfolding id_check
 id-known t n e = ltb-true n t.nimpid (not-false (ltb n t.nimpid) (accepted-test (not (ltb n t.nimpid)) _ e))
 
@@ -128,15 +126,15 @@ strings-few file l h =
     let ids = h.loader.tables.ids in
     omega (arith, zeros-few (bytes_of file l.tables.ids), length_part file l.tables.ids ids, ids, h.sections.small)
 
-by-id : (file : List ℕ) (l : Loadable) (n : ℕ) (w : ImportString) (v : Verdict) → id_check l.tables n ≡ v → Valid file l → Within (length file) (by_verdict v (range.Found (string_of file l.tables.ids (3 * n + place_of w))) range.Refused)
-by-id file l n w (verdict.Refused x) e h = tt
-by-id file l n w verdict.Accepted e h =
+by-id : (file : List ℕ) (l : Loadable) (n : ℕ) (w : ImportString) (v : Verdict) → id_check l.tables n ≡ v → Valid file l → Within (length file) (by_verdict v (Ok (string_of file l.tables.ids (3 * n + place_of w))) Err)
+by-id file l n w (Err x) e h = tt
+by-id file l n w (Ok tt) e h =
     string-inside file l.tables.ids (3 * n + place_of w) h.loader.tables.ids (strings-there file l n (place_of w) h (id-known l.tables n e) (place-few w))
 
-by_answer : (file : List ℕ) (n : ℕ) (w : ImportString) (a : LoadableAnswer) → loadable_at file ≡ a → Within (length file) (import_in file a n w)
+by_answer : (file : List ℕ) (n : ℕ) (w : ImportString) (a : Result Loadable Refusal) → loadable_at file ≡ a → Within (length file) (import_in file a n w)
 unfolding import_in
-by_answer file n w (loadable.Refused x) e = tt
-by_answer file n w (loadable.Found l) e = by-id file l n w (id_check l.tables n) refl (loadable-valid file l e)
+by_answer file n w (Err x) e = tt
+by_answer file n w (Ok l) e = by-id file l n w (id_check l.tables n) refl (loadable-valid file l e)
 
 -- a string of an import id lies in the file
 pub import-within : (file : List ℕ) (n : ℕ) (w : ImportString) → Within (length file) (import_at file n w)

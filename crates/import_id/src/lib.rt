@@ -10,8 +10,7 @@ ghost use Rattle.refusal.specs.Part.{range_bytes};
 ghost use Rattle.import_id.specs.Import.{string_start, string_of, place_of, import_at};
 
 use format::{FileOffset, FileRange};
-use loadable::LoadableAnswer;
-use refusal::{IndexItem, RangeAnswer, Refusal};
+use refusal::{IndexItem, Refusal};
 
 // The three strings of an import id.
 #[derive(Clone, Copy)]
@@ -27,10 +26,8 @@ fn string_start(s: &[u8], j: u64) -> usize
     ensures { result ≡ string_start s.now j }
 {
     let mut at: usize = 0;
-    let mut k: u64 = 0;
-    while k < j {
+    for _k in 0..j {
         at = at + word::first_zero(&s[at..]) + 1;
-        k += 1;
     }
     at
 }
@@ -63,22 +60,17 @@ fn place_of(w: ImportString) -> u64
 }
 
 // Where a string of import id `n` lies.
-pub fn import_range(file: &[u8], n: u64, w: ImportString) -> RangeAnswer
+pub fn import_range(file: &[u8], n: u64, w: ImportString) -> Result<FileRange, Refusal>
     ensures cause { result ≡ import_at file.now n w }
     ensures report { report_of_range file.now result ≡ report_of_range file.now (import_at file.now n w) }
 {
-    let a = loadable::module_of(file);
-    match a {
-        LoadableAnswer::Refused(x) => RangeAnswer::Refused(x),
-        LoadableAnswer::Found(l) => {
-            let t = l.tables;
-            if n < t.nimpid {
-                let ids = t.ids;
-                return RangeAnswer::Found(string_of(file, ids, 3 * n + place_of(w)));
-            }
-            RangeAnswer::Refused(Refusal::Index(IndexItem::NoImportId(n)))
-        }
+    let l = loadable::module_of(file)?;
+    let t = l.tables;
+    if n < t.nimpid {
+        let ids = t.ids;
+        return Ok(string_of(file, ids, 3 * n + place_of(w)));
     }
+    Err(Refusal::Index(IndexItem::NoImportId(n)))
 }
 
 // The path of import id `n`: the very bytes of the file, none on a refusal.

@@ -11,11 +11,8 @@ use Rattle.word.specs.Zero.{first_zero}
 use Rattle.format.specs.declared.FileRange.{FileRange}
 use Rattle.format.specs.Limit.{file_limit}
 use Rattle.format.specs.Range.{bytes_of}
-use Rattle.refusal.specs.declared.RangeAnswer.TheVariants as range
-use Rattle.refusal.specs.declared.Verdict.TheVariants as verdict
 use Rattle.loader_header.specs.declared.LoaderTables.{LoaderTables}
 use Rattle.loadable.specs.declared.Loadable.{Loadable}
-use Rattle.loadable.specs.declared.LoadableAnswer.TheVariants.{Found}
 use Rattle.loadable.specs.Loadable.{loadable_at, report_of_module, module_report}
 use Rattle.loadable.proofs.Accepted.{loadable-valid}
 use Rattle.import_id.specs.declared.ImportString.{ImportString}
@@ -28,6 +25,7 @@ use Rattle.module_table.specs.Table.{table_check}
 use Rattle.module_table.proofs.Tables.{Needs, needs-by}
 use Rattle.import_table.specs.Imports.{import_row, imports, string_row, StringsThere}
 use Rattle.format.proofs.Ranges.{length_part}
+use Rattle.std.specs.Prelude.{Ok}
 
 pub string-even : (file : List ℕ) (ids : FileRange) (j : ℕ) → length (string_row file ids j) ≡ 2
 unfolding string_row
@@ -61,11 +59,11 @@ module _ (file : List ℕ) (ids : FileRange) (n j : ℕ) (h : StringsThere file 
 
 -- ---- an accepted module
 
-id-in : (t : LoaderTables) (n : ℕ) → n < t.nimpid → id_check t n ≡ verdict.Accepted
+id-in : (t : LoaderTables) (n : ℕ) → n < t.nimpid → id_check t n ≡ Ok tt
 unfolding id_check
 id-in t n h = rw (lt-ltb n t.nimpid h) refl
 
-module _ (file : List ℕ) (l : Loadable) (found : loadable_at file ≡ Found l) where
+module _ (file : List ℕ) (l : Loadable) (found : loadable_at file ≡ Ok l) where
   pub ids-few : 3 * l.tables.nimpid ≤ file_limit
   ids-few =
       let v = loadable-valid file l found in
@@ -77,7 +75,7 @@ module _ (file : List ℕ) (l : Loadable) (found : loadable_at file ≡ Found l)
       let v = loadable-valid file l found in
       record { small = v.sections.small; inside = v.loader.tables.ids; enough = v.loader.ids }
 
-  import-found : (n : ℕ) (w : ImportString) → n < l.tables.nimpid → import_at file n w ≡ range.Found (string_of file l.tables.ids (3 * n + place_of w))
+  import-found : (n : ℕ) (w : ImportString) → n < l.tables.nimpid → import_at file n w ≡ Ok (string_of file l.tables.ids (3 * n + place_of w))
   unfolding import_at import_in
   import-found n w h = rw (found, id-in l.tables n h) refl
 

@@ -12,8 +12,8 @@ ghost use Rattle.refusal.specs.Order.{if_accepted};
 ghost use Rattle.offset.specs.Report.{report_head};
 
 use format::FileRange;
-use loadable::{Loadable, LoadableAnswer};
-use refusal::Verdict;
+use loadable::Loadable;
+use refusal::Refusal;
 
 // The length of the string that starts at the place `at` of the import id table.
 fn string_length(file: &[u8], ids: FileRange, at: usize) -> usize
@@ -32,43 +32,34 @@ fn write_strings(file: &[u8], ids: FileRange, count: u64, out: &mut [u64])
     ensures { out.new ≡ rows_of (string_row file.now ids) 0 count }
 {
     let from = ids.start;
-    let n = count as usize;
     let mut at: usize = 0;
-    let mut j: usize = 0;
-    while j < n {
+    for j in 0..count {
         let len = string_length(file, ids, at);
         let row = [from.0 + at as u64, len as u64];
-        rows::write_row(&row, j * 2, out);
+        rows::write_row(&row, j as usize * 2, out);
         at = at + len + 1;
-        j += 1;
     }
 }
 
 // ROOM 0, or the rows of the module `l`.
-fn list_imports(file: &[u8], l: Loadable, out: &mut [u64]) -> Verdict
-    requires { loadable_at file.now ≡ LoadableAnswer.Found l }
-    ensures answer { result ≡ check_by imports (LoadableAnswer.Found l) (length out.old) }
-    ensures rows { out.new ≡ if_accepted result (rows_by imports file.now (LoadableAnswer.Found l)) out.old }
+fn list_imports(file: &[u8], l: Loadable, out: &mut [u64]) -> Result<(), Refusal>
+    requires { loadable_at file.now ≡ Ok l }
+    ensures answer { result ≡ check_by imports (Ok l) (length out.old) }
+    ensures rows { out.new ≡ if_accepted result (rows_by imports file.now (Ok l)) out.old }
 {
     let t = l.tables;
-    let v = rows::check_room(out.len() as u64, 6 * t.nimpid);
-    if refusal::refuses(v) {
-        return v;
-    }
+    rows::check_room(out.len() as u64, 6 * t.nimpid)?;
     let ids = t.ids;
     write_strings(file, ids, 3 * t.nimpid, out);
-    Verdict::Accepted
+    Ok(())
 }
 
 // A row of 6 numbers for each import id.
-pub fn import_table(file: &[u8], out: &mut [u64]) -> Verdict
+pub fn import_table(file: &[u8], out: &mut [u64]) -> Result<(), Refusal>
     ensures cause { result ≡ table_check imports file.now (length out.old) }
     ensures report { report_head file.now result ≡ report_head file.now (table_check imports file.now (length out.old)) }
     ensures rows { out.new ≡ table_after imports file.now out.old }
 {
-    let a = loadable::module_of(file);
-    match a {
-        LoadableAnswer::Refused(x) => Verdict::Refused(x),
-        LoadableAnswer::Found(l) => list_imports(file, l, out),
-    }
+    let l = loadable::module_of(file)?;
+    list_imports(file, l, out)
 }

@@ -12,13 +12,12 @@ use Rattle.line.specs.declared.LineMark.{LineMark}
 use Rattle.line.specs.declared.LineEntry.{LineEntry}
 use Rattle.line.specs.declared.LineEntry.TheVariants.{Function, Line}
 use Rattle.line.specs.declared.LineFound.{LineFound}
-use Rattle.line.specs.declared.LineBest.{LineBest}
-use Rattle.line.specs.declared.LineBest.TheVariants.{Nothing, At}
 use Rattle.line.specs.declared.LineSearch.{LineSearch}
-use Rattle.line.specs.declared.LineAnswer.{LineAnswer}
-use Rattle.line.specs.declared.LineAnswer.TheVariants.{Group, NoLine, Found}
+use Rattle.line.specs.declared.LineError.{LineError}
+use Rattle.line.specs.declared.LineError.TheVariants.{Group, NoLine}
 use Rattle.line.specs.Search.{Entries, is_below, better, seen, seen_to, best_answer, answer_of, answer_in}
 use Rattle.line.specs.Meaning.{Marks, GroupOf, Nearest, Ungrouped, AllAbove, Answers}
+use Rattle.std.specs.Prelude.{None, Option, Some, Err, Ok, Result}
 
 one_more : (a : ℕ) (s : LineSearch) (x : LineEntry) → (seen a s x).seen ≡ suc s.seen
 unfolding seen
@@ -64,18 +63,18 @@ module _ (e : Entries) (a : ℕ) where
     first : (j : ℕ) (m : LineMark) → j < r.number → Marks e j m → m.address.0 ≤ a → m.address.0 < r.mark.address.0
     symbol : r.symbol ≡ symbol_to r.number
 
-  abbrev Best : ℕ → LineBest → Type 0
-  Best n Nothing = AllAbove e a n
-  Best n (At r) = Near n r
+  abbrev Best : ℕ → Option LineFound → Type 0
+  Best n None = AllAbove e a n
+  Best n (Some r) = Near n r
 
   -- what is found stays so past an entry that is not nearer
-  abbrev Passed : LineBest → LineMark → Type 0
-  Passed Nothing m = a < m.address.0
-  Passed (At r) m = m.address.0 ≤ a → m.address.0 ≤ r.mark.address.0
+  abbrev Passed : Option LineFound → LineMark → Type 0
+  Passed None m = a < m.address.0
+  Passed (Some r) m = m.address.0 ≤ a → m.address.0 ≤ r.mark.address.0
 
-  stays : (n : ℕ) (b : LineBest) → Best n b → ((m : LineMark) → Marks e n m → Passed b m) → Best (suc n) b
-  stays n Nothing h p = λ j m l q. upto j n l (λ k. h j m k q) (λ k. p m (subst (λ (i : ℕ). Marks e i m) k q))
-  stays n (At r) h p = record {
+  stays : (n : ℕ) (b : Option LineFound) → Best n b → ((m : LineMark) → Marks e n m → Passed b m) → Best (suc n) b
+  stays n None h p = λ j m l q. upto j n l (λ k. h j m k q) (λ k. p m (subst (λ (i : ℕ). Marks e i m) k q))
+  stays n (Some r) h p = record {
     inside = omega (arith, h.inside);
     marks = h.marks;
     reached = h.reached;
@@ -95,10 +94,10 @@ module _ (e : Entries) (a : ℕ) where
   abbrev Under : ℕ → LineMark → Type 0
   Under n x = (j : ℕ) (m : LineMark) → j < n → Marks e j m → m.address.0 ≤ a → m.address.0 < x.address.0
 
-  under : (n : ℕ) (b : LineBest) (x : LineMark) → Best n b → is_below b x.address.0 ≡ true → Under n x
+  under : (n : ℕ) (b : Option LineFound) (x : LineMark) → Best n b → is_below b x.address.0 ≡ true → Under n x
   unfolding is_below
-  under n Nothing x h t = λ j m l q r. absurd (omega (arith, h j m l q, r))
-  under n (At y) x h t = λ j m l q r. omega (arith, h.nearest j m l q r, ltb-true y.mark.address.0 x.address.0 t)
+  under n None x h t = λ j m l q r. absurd (omega (arith, h j m l q, r))
+  under n (Some y) x h t = λ j m l q r. omega (arith, h.nearest j m l q r, ltb-true y.mark.address.0 x.address.0 t)
 
   found : (n : ℕ) (x : LineMark) (k : SymbolIndex) → Marks e n x → x.address.0 ≤ a → k ≡ symbol_to n → Under n x → Near (suc n) (record { number = n; mark = x; symbol = k })
   found n x k q t c u = record {
@@ -110,17 +109,17 @@ module _ (e : Entries) (a : ℕ) where
     symbol = c;
   }
 
-  not-below : (b : LineBest) (x m : LineMark) → is_below b x.address.0 ≡ false → m ≡ x → Passed b m
+  not-below : (b : Option LineFound) (x m : LineMark) → is_below b x.address.0 ≡ false → m ≡ x → Passed b m
   unfolding is_below
-  not-below Nothing x m t q = absurd (subst truth t tt)
-  not-below (At y) x m t q = λ _. subst (λ (z : LineMark). z.address.0 ≤ y.mark.address.0) (sym q) (ltb-false _ _ t)
+  not-below None x m t q = absurd (subst truth t tt)
+  not-below (Some y) x m t q = λ _. subst (λ (z : LineMark). z.address.0 ≤ y.mark.address.0) (sym q) (ltb-false _ _ t)
 
-  beyond : (b : LineBest) (x m : LineMark) → a < x.address.0 → m ≡ x → Passed b m
-  beyond Nothing x m l q = subst (λ (z : LineMark). a < z.address.0) (sym q) l
-  beyond (At y) x m l q = λ t. absurd (omega (arith, l, subst (λ (z : LineMark). z.address.0 ≤ a) q t))
+  beyond : (b : Option LineFound) (x m : LineMark) → a < x.address.0 → m ≡ x → Passed b m
+  beyond None x m l q = subst (λ (z : LineMark). a < z.address.0) (sym q) l
+  beyond (Some y) x m l q = λ t. absurd (omega (arith, l, subst (λ (z : LineMark). z.address.0 ≤ a) q t))
 
   -- the better of what was found and entry n
-  better-one : (n : ℕ) (b : LineBest) (x : LineMark) (k : SymbolIndex) → Marks e n x → k ≡ symbol_to n → Best n b → Best (suc n) (better a b (record { number = n; mark = x; symbol = k }))
+  better-one : (n : ℕ) (b : Option LineFound) (x : LineMark) (k : SymbolIndex) → Marks e n x → k ≡ symbol_to n → Best n b → Best (suc n) (better a b (record { number = n; mark = x; symbol = k }))
   unfolding better
   better-one n b x k q c h =
       either (Best (suc n)) (leb x.address.0 a)
@@ -201,11 +200,11 @@ module _ (e : Entries) (a : ℕ) where
       later zero q = absurd (grouped (record { some = omega (arith, h.inside); mark = r.mark; marks = ap e q ∙ h.marks }))
       later (suc i) q = omega arith
 
-  by_parts : (n : ℕ) (b : Bool) (x : LineBest) → Judged n b → Best n x → Answers e a n (cond b Group (best_answer x))
+  by_parts : (n : ℕ) (b : Bool) (x : Option LineFound) → Judged n b → Best n x → Answers e a n (cond b (Err Group) (best_answer x))
   unfolding best_answer
   by_parts n true x s h = s
-  by_parts n false Nothing s h = (s, h)
-  by_parts n false (At r) s h = (s, whole n r s h)
+  by_parts n false None s h = (s, h)
+  by_parts n false (Some r) s h = (s, whole n r s h)
 
   -- THE ANSWER: the entry with the greatest address not above the one asked for, the first such in table order, with the symbol of the last function entry before it; and when there is none
   pub answered : (n : ℕ) → Answers e a n (answer_in e a n)
@@ -246,17 +245,17 @@ module _ (e : Entries) (a : ℕ) where
       let k = same-group r.number r'.number r.symbol r'.symbol w p.group q.group in
       λ i. record { number = w i; mark = m i; symbol = k i }
 
-  same : (n : ℕ) (x y : LineAnswer) → Answers e a n x → Answers e a n y → x ≡ y
-  same n Group Group p q = refl
-  same n Group NoLine p q = absurd (q.0 p)
-  same n Group (Found r) p q = absurd (q.0 p)
-  same n NoLine Group p q = absurd (p.0 q)
-  same n NoLine NoLine p q = refl
-  same n NoLine (Found r) p q = absurd (omega (arith, p.1 r.number r.mark q.1.inside q.1.marks, q.1.reached))
-  same n (Found r) Group p q = absurd (p.0 q)
-  same n (Found r) NoLine p q = absurd (omega (arith, q.1 r.number r.mark p.1.inside p.1.marks, p.1.reached))
-  same n (Found r) (Found r') p q = ap Found (same-found n r r' p.1 q.1)
+  same : (n : ℕ) (x y : Result LineFound LineError) → Answers e a n x → Answers e a n y → x ≡ y
+  same n (Err Group) (Err Group) p q = refl
+  same n (Err Group) (Err NoLine) p q = absurd (q.0 p)
+  same n (Err Group) (Ok r) p q = absurd (q.0 p)
+  same n (Err NoLine) (Err Group) p q = absurd (p.0 q)
+  same n (Err NoLine) (Err NoLine) p q = refl
+  same n (Err NoLine) (Ok r) p q = absurd (omega (arith, p.1 r.number r.mark q.1.inside q.1.marks, q.1.reached))
+  same n (Ok r) (Err Group) p q = absurd (p.0 q)
+  same n (Ok r) (Err NoLine) p q = absurd (omega (arith, q.1 r.number r.mark p.1.inside p.1.marks, p.1.reached))
+  same n (Ok r) (Ok r') p q = ap Ok (same-found n r r' p.1 q.1)
 
   -- and no other answer says as much of the table
-  pub only-answer : (n : ℕ) (x : LineAnswer) → Answers e a n x → x ≡ answer_in e a n
+  pub only-answer : (n : ℕ) (x : Result LineFound LineError) → Answers e a n x → x ≡ answer_in e a n
   only-answer n x p = same n x (answer_in e a n) p (answered n)

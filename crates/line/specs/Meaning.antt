@@ -1,11 +1,11 @@
 -- What the answer for an address is, in terms of the table alone: the statement that `proofs/Search` shows of `answer_in`.
-use Rattle.std.specs.Prelude.{ℕ, ◌≤◌, ◌<◌, ◌≡◌}
+use Rattle.std.specs.Prelude.{ℕ, ◌≤◌, ◌<◌, ◌≡◌, Err, Ok, Result}
 use Rattle.format.specs.declared.SymbolIndex.{SymbolIndex}
 use Rattle.line.specs.declared.LineMark.{LineMark}
 use Rattle.line.specs.declared.LineEntry.TheVariants.{Function, Line}
 use Rattle.line.specs.declared.LineFound.{LineFound}
-use Rattle.line.specs.declared.LineAnswer.{LineAnswer}
-use Rattle.line.specs.declared.LineAnswer.TheVariants.{Group, NoLine, Found}
+use Rattle.line.specs.declared.LineError.{LineError}
+use Rattle.line.specs.declared.LineError.TheVariants.{Group, NoLine}
 use Rattle.line.specs.Search.{Entries}
 
 -- entry i is a line entry with this mark
@@ -39,7 +39,7 @@ abbrev pub AllAbove : Entries → ℕ → ℕ → Type 0
 AllAbove e a n = (j : ℕ) (m : LineMark) → j < n → Marks e j m → a < m.address.0
 
 -- what each answer says of the table
-abbrev pub Answers : Entries → ℕ → ℕ → LineAnswer → Type 0
-Answers e a n Group = Ungrouped e n
-Answers e a n NoLine = (Ungrouped e n → ⊥) × AllAbove e a n
-Answers e a n (Found r) = (Ungrouped e n → ⊥) × Nearest e a n r
+abbrev pub Answers : Entries → ℕ → ℕ → Result LineFound LineError → Type 0
+Answers e a n (Err Group) = Ungrouped e n
+Answers e a n (Err NoLine) = (Ungrouped e n → ⊥) × AllAbove e a n
+Answers e a n (Ok r) = (Ungrouped e n → ⊥) × Nearest e a n r

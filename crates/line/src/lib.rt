@@ -4,11 +4,12 @@
 ghost use Rattle.std.specs.Prelude.{◌≡◌, ◌+◌, ◌*◌, ◌≤◌, ◌<◌, ◌^◌, ltb, length};
 ghost use Rattle.line.specs.Line.{line_length, line_layout, entry_at, line_row};
 ghost use Rattle.line.specs.Block.{block_rows, empty_block, added};
-ghost use Rattle.line.specs.Search.{seen};
+ghost use Rattle.line.specs.Search.{seen, refusal_of};
 
 use format::{Format, SymbolIndex, VirtualAddress};
+use refusal::Refusal;
 use table_kind::TableKind;
-use word::Field;
+use word::{Field, Width};
 
 // Where an entry keeps its numbers.
 #[derive(Clone, Copy)]
@@ -40,12 +41,6 @@ pub struct LineFound {
     pub symbol: SymbolIndex,
 }
 
-#[derive(Clone, Copy)]
-pub enum LineBest {
-    Nothing,
-    At(LineFound),
-}
-
 // What a pass knows: how many entries it has seen, whether the first of them was a line entry, the symbol of the group that
 // it is in, and the best entry so far.
 #[derive(Clone, Copy)]
@@ -53,7 +48,7 @@ pub struct LineSearch {
     pub seen: usize,
     pub ungrouped: bool,
     pub symbol: SymbolIndex,
-    pub best: LineBest,
+    pub best: Option<LineFound>,
 }
 
 // Up to 8 rows of entries, in the first numbers.
@@ -63,11 +58,23 @@ pub struct LineBlock {
     pub rows: usize,
 }
 
+// Why a search ends without an entry.
 #[derive(Clone, Copy)]
-pub enum LineAnswer {
+pub enum LineError {
     Group,
     NoLine,
-    Found(LineFound),
+}
+
+// Document 02's refusals.
+impl From<LineError> for Refusal {
+    ghost from_gives = { λ e x. x ≡ refusal_of e };
+
+    fn from(e: LineError) -> Refusal {
+        match e {
+            LineError::Group => Refusal::Group,
+            LineError::NoLine => Refusal::NoLine,
+        }
+    }
 }
 
 pub fn line_layout(f: Format) -> LineLayout
@@ -75,14 +82,14 @@ pub fn line_layout(f: Format) -> LineLayout
 {
     match f {
         Format::Xcoff32 => LineLayout {
-            symbol: word::four(0),
-            address: word::four(0),
-            line: word::two(4),
+            symbol: Width::Four.at(0),
+            address: Width::Four.at(0),
+            line: Width::Two.at(4),
         },
         Format::Xcoff64 => LineLayout {
-            symbol: word::four(0),
-            address: word::eight(0),
-            line: word::four(8),
+            symbol: Width::Four.at(0),
+            address: Width::Eight.at(0),
+            line: Width::Four.at(8),
         },
     }
 }

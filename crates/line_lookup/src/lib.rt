@@ -4,14 +4,14 @@
 ghost use Rattle.std.specs.Prelude.{◌≡◌, ◌+◌, ◌*◌, ◌≤◌, length};
 ghost use Rattle.format.specs.Limit.{section_limit};
 ghost use Rattle.line.specs.Line.{line_length};
-ghost use Rattle.line_lookup.specs.Lookup.{text_check, with_format, report_of_count, lookup_of, find_in, report_of_line};
+ghost use Rattle.line_lookup.specs.Lookup.{text_check, with_format, report_of_count, find_in, report_of_line};
 
 use format::{FileOffset, Format, SectionNumber};
 use header::Summary;
-use line::{LineAnswer, LineFound};
-use refusal::{Head, IndexItem, Refusal, Verdict};
+use line::LineFound;
+use refusal::{Head, IndexItem, Refusal};
 use section_kind::SectionKind;
-use section_tables::TableAnswer;
+use section_tables::SectionTable;
 
 // The line table of a text section.
 #[derive(Clone, Copy)]
@@ -19,19 +19,6 @@ pub struct LineTable {
     pub format: Format,
     pub start: FileOffset,
     pub count: u64,
-}
-
-#[derive(Clone, Copy)]
-pub enum LineTableAnswer {
-    Found(LineTable),
-    Refused(Refusal),
-}
-
-// The entry for an address, or why there is none.
-#[derive(Clone, Copy)]
-pub enum LineLookup {
-    Found(LineFound),
-    Refused(Refusal),
 }
 
 // How many entries a line table has.
@@ -54,88 +41,71 @@ pub struct LineReport {
 }
 
 // INDEX where the file has no text section `n`.
-pub fn check_text(y: Summary, n: SectionNumber) -> Verdict
+pub fn check_text(y: Summary, n: SectionNumber) -> Result<(), Refusal>
     requires { y.count ≤ section_limit }
     ensures { result ≡ text_check y n }
 {
-    let v = section_lookup::check_number(Verdict::Accepted, y.count, n);
-    if refusal::refuses(v) {
-        return v;
-    }
+    section_lookup::check_number(Ok(()), y.count, n)?;
     let sections = y.sections;
     let i = (n.0 - 1) as usize;
     let s = sections[i];
     let kind = s.kind;
     if kind.flags() == SectionKind::TEXT {
-        return Verdict::Accepted;
+        return Ok(());
     }
-    Verdict::Refused(Refusal::Index(IndexItem::NoSection(n)))
+    Err(Refusal::Index(IndexItem::NoSection(n)))
 }
 
-pub fn with_format(f: Format, a: TableAnswer) -> LineTableAnswer
+pub fn with_format(f: Format, a: Result<SectionTable, Refusal>) -> Result<LineTable, Refusal>
     ensures { result ≡ with_format f a }
 {
-    match a {
-        TableAnswer::Refused(x) => LineTableAnswer::Refused(x),
-        TableAnswer::Found(t) => {
-            let start = t.start;
-            LineTableAnswer::Found(LineTable {
-                format: f,
-                start,
-                count: t.count,
-            })
-        }
-    }
+    let t = a?;
+    let start = t.start;
+    Ok(LineTable {
+        format: f,
+        start,
+        count: t.count,
+    })
 }
 
-// The answer of a search with document 02's refusals.
-fn lookup_of(a: LineAnswer) -> LineLookup
-    ensures { result ≡ lookup_of a }
-{
-    match a {
-        LineAnswer::Group => LineLookup::Refused(Refusal::Group),
-        LineAnswer::NoLine => LineLookup::Refused(Refusal::NoLine),
-        LineAnswer::Found(found) => LineLookup::Found(found),
-    }
-}
-
-pub fn find_in(file: &[u8], t: LineTable, address: u64) -> LineLookup
+pub fn find_in(file: &[u8], t: LineTable, address: u64) -> Result<LineFound, Refusal>
     requires { t.start.0 + t.count * line_length t.format ≤ length file.now }
-    ensures { result ≡ find_in file.now address (LineTableAnswer.Found t) }
+    ensures { result ≡ find_in file.now address (Ok t) }
 {
     let f = t.format;
     let start = t.start;
     let at = start.0 as usize;
-    lookup_of(line_reader::find_in_table(file, at, t.count as usize, f, address))
+    let found = line_reader::find_in_table(file, at, t.count as usize, f, address)?;
+    Ok(found)
 }
 
-pub fn report_count(file: &[u8], a: LineTableAnswer) -> LineCountReport
+pub fn report_count(file: &[u8], a: Result<LineTable, Refusal>) -> LineCountReport
     ensures { result ≡ report_of_count file.now a }
 {
     match a {
-        LineTableAnswer::Refused(x) => LineCountReport {
+        Err(x) => LineCountReport {
             head: offset::refusal_head(file, x),
             count: 0,
         },
-        LineTableAnswer::Found(t) => LineCountReport {
+        Ok(t) => LineCountReport {
             head: refusal::accepted_head(),
             count: t.count,
         },
     }
 }
 
-pub fn report_line(file: &[u8], a: LineLookup) -> LineReport
+pub fn report_line(file: &[u8], a: Result<LineFound, Refusal>) -> LineReport
     ensures { result ≡ report_of_line file.now a }
 {
     match a {
-        LineLookup::Refused(x) => LineReport {
+        Err(x) => LineReport {
             head: offset::refusal_head(file, x),
             entry: 0,
             address: 0,
             line: 0,
             symbol: 0,
         },
-        LineLookup::Found(found) => {
+        Ok(found) => {
             let mark = found.mark;
             let address = mark.address;
             let symbol = found.symbol;

@@ -7,7 +7,7 @@ ghost use Rattle.line.specs.Block.{block_rows, block_to};
 ghost use Rattle.line.specs.Search.{seen_to, answer_in};
 
 use format::Format;
-use line::{LineAnswer, LineBlock, LineEntry, LineSearch};
+use line::{LineBlock, LineEntry, LineError, LineFound, LineSearch};
 
 #[derive(Clone, Copy)]
 pub struct LineReader<'a> {
@@ -81,7 +81,13 @@ pub fn pass_block(file: &[u8], at: usize, count: usize, f: Format) -> LineBlock
 }
 
 // The answer for an address over a table of `count` entries at `at`.
-pub fn find_in_table(file: &[u8], at: usize, count: usize, f: Format, address: u64) -> LineAnswer
+pub fn find_in_table(
+    file: &[u8],
+    at: usize,
+    count: usize,
+    f: Format,
+    address: u64,
+) -> Result<LineFound, LineError>
     requires { at + count * line_length f ≤ length file.now }
     ensures { result ≡ answer_in (entry_of file.now at f) address count }
 {

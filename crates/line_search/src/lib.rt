@@ -5,7 +5,7 @@ ghost use Rattle.std.specs.Prelude.{◌≡◌, ◌+◌, ◌<◌, ◌^◌, true, 
 ghost use Rattle.line.specs.Search.{is_below, better, begun, seen, answer_of};
 
 use format::SymbolIndex;
-use line::{LineAnswer, LineBest, LineEntry, LineFound, LineSearch};
+use line::{LineEntry, LineError, LineFound, LineSearch};
 
 // A search that has seen nothing.
 pub fn begin() -> LineSearch
@@ -15,16 +15,16 @@ pub fn begin() -> LineSearch
         seen: 0,
         ungrouped: false,
         symbol: SymbolIndex(0),
-        best: LineBest::Nothing,
+        best: None,
     }
 }
 
-fn is_below(b: LineBest, address: u64) -> bool
+fn is_below(b: Option<LineFound>, address: u64) -> bool
     ensures { result ≡ is_below b address }
 {
     match b {
-        LineBest::Nothing => true,
-        LineBest::At(found) => {
+        None => true,
+        Some(found) => {
             let mark = found.mark;
             let known = mark.address;
             known.0 < address
@@ -33,7 +33,7 @@ fn is_below(b: LineBest, address: u64) -> bool
 }
 
 // The nearer one, the earlier where two are as near.
-fn nearer(address: u64, b: LineBest, found: LineFound) -> LineBest
+fn nearer(address: u64, b: Option<LineFound>, found: LineFound) -> Option<LineFound>
     ensures { result ≡ better address b found }
 {
     let mark = found.mark;
@@ -42,7 +42,7 @@ fn nearer(address: u64, b: LineBest, found: LineFound) -> LineBest
         return b;
     }
     if is_below(b, own.0) {
-        return LineBest::At(found);
+        return Some(found);
     }
     b
 }
@@ -88,15 +88,11 @@ pub fn see(s: LineSearch, address: u64, e: LineEntry) -> LineSearch
 }
 
 // The answer that a pass gives.
-pub fn answer_of(s: LineSearch) -> LineAnswer
+pub fn answer_of(s: LineSearch) -> Result<LineFound, LineError>
     ensures { result ≡ answer_of s }
 {
     if s.ungrouped {
-        return LineAnswer::Group;
+        return Err(LineError::Group);
     }
-    let best = s.best;
-    match best {
-        LineBest::Nothing => LineAnswer::NoLine,
-        LineBest::At(found) => LineAnswer::Found(found),
-    }
+    s.best.ok_or(LineError::NoLine)
 }

@@ -12,8 +12,8 @@ ghost use Rattle.rows.specs.Rows.{rows_of};
 ghost use Rattle.line_table.specs.Table.{entry_row, check_by, line_table_check, rows_by, lines_after};
 
 use format::SectionNumber;
-use line_lookup::{LineTable, LineTableAnswer};
-use refusal::Verdict;
+use line_lookup::LineTable;
+use refusal::Refusal;
 
 // How many of the entries that are left a block takes.
 fn block_length(left: usize) -> usize
@@ -35,6 +35,7 @@ fn write_lines(file: &[u8], t: LineTable, out: &mut [u64])
     let count = t.count as usize;
     let mut at = start.0 as usize;
     let mut i: usize = 0;
+    // A `while`: `i` steps by each block's length, which `block_length` chooses.
     while i < count {
         let m = block_length(count - i);
         let b = line_reader::pass_block(file, at, m, f);
@@ -46,28 +47,22 @@ fn write_lines(file: &[u8], t: LineTable, out: &mut [u64])
 }
 
 // ROOM 0, or the rows of the table `t`.
-fn list_lines(file: &[u8], t: LineTable, out: &mut [u64]) -> Verdict
+fn list_lines(file: &[u8], t: LineTable, out: &mut [u64]) -> Result<(), Refusal>
     requires { t.start.0 + t.count * line_length t.format ≤ length file.now }
-    ensures answer { result ≡ check_by (LineTableAnswer.Found t) (length out.old) }
-    ensures rows { out.new ≡ if_accepted result (rows_by file.now (LineTableAnswer.Found t)) out.old }
+    ensures answer { result ≡ check_by (Ok t) (length out.old) }
+    ensures rows { out.new ≡ if_accepted result (rows_by file.now (Ok t)) out.old }
 {
-    let v = rows::check_room(out.len() as u64, 3 * t.count);
-    if refusal::refuses(v) {
-        return v;
-    }
+    rows::check_room(out.len() as u64, 3 * t.count)?;
     write_lines(file, t, out);
-    Verdict::Accepted
+    Ok(())
 }
 
 // A row of 3 numbers for each entry of the line table of text section `n`.
-pub fn line_table(file: &[u8], n: SectionNumber, out: &mut [u64]) -> Verdict
+pub fn line_table(file: &[u8], n: SectionNumber, out: &mut [u64]) -> Result<(), Refusal>
     ensures cause { result ≡ line_table_check file.now n (length out.old) }
     ensures report { report_head file.now result ≡ report_head file.now (line_table_check file.now n (length out.old)) }
     ensures rows { out.new ≡ lines_after file.now n out.old }
 {
-    let a = line_find::find_line_table(file, n);
-    match a {
-        LineTableAnswer::Refused(x) => Verdict::Refused(x),
-        LineTableAnswer::Found(t) => list_lines(file, t, out),
-    }
+    let t = line_find::find_line_table(file, n)?;
+    list_lines(file, t, out)
 }

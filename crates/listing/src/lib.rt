@@ -8,7 +8,7 @@ ghost use Rattle.listing.specs.Listing.{address_digits, format_word, file_line, 
 
 use format::{Format, VirtualAddress};
 use header::Summary;
-use refusal::{Head, Verdict};
+use refusal::Head;
 use section::Section;
 
 fn put_format(out: &mut [u8; 2048], f: Format) -> usize
@@ -67,11 +67,8 @@ fn put_section_lines(
     ensures short { result ≤ 2048 }
 {
     let mut next = at;
-    let mut i: usize = 0;
-    while i < count {
-        let s = sections[i];
-        next = put_section_line(out, next, f, i as u64 + 1, s);
-        i += 1;
+    for (i, s) in sections[..count].iter().enumerate() {
+        next = put_section_line(out, next, f, i as u64 + 1, *s);
     }
     next
 }
@@ -137,7 +134,7 @@ pub fn list_headers(file: &[u8], out: &mut [u8; 2048]) -> usize
     let v = o.verdict;
     let y = o.summary;
     match v {
-        Verdict::Refused(x) => count_in(put_refusal_line(out, offset::refusal_head(file, x)), out),
-        Verdict::Accepted => count_in(put_summary(out, y), out),
+        Err(x) => count_in(put_refusal_line(out, offset::refusal_head(file, x)), out),
+        Ok(()) => count_in(put_summary(out, y), out),
     }
 }

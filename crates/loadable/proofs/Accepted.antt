@@ -10,20 +10,15 @@ use borrow.Author.Tests.{ltb-true}
 use Rattle.format.specs.declared.Format.{Format}
 use Rattle.format.specs.Limit.{file_limit}
 use Rattle.refusal.specs.declared.Refusal.TheVariants.{Overlap}
-use Rattle.refusal.specs.declared.Verdict.TheVariants as verdict
 use Rattle.refusal.specs.Order.{refuse_if}
 use Rattle.refusal.proofs.Order.{accepted-first, accepted-rest, accepted-test, first-all, by-verdict}
 use Rattle.parts.specs.declared.Part.{Part}
 use Rattle.parts.specs.declared.Parts.{Parts}
 use Rattle.module.specs.declared.Module.{Module}
-use Rattle.module.specs.declared.ModuleAnswer.{ModuleAnswer}
-use Rattle.module.specs.declared.ModuleAnswer.TheVariants as module-answer
 use Rattle.module.specs.Module.{module_at}
 use Rattle.module.specs.Inside.{PartInside, ModuleInside}
 use Rattle.module.proofs.Accepted.{module-inside}
 use Rattle.loader_header.specs.declared.LoaderTables.{LoaderTables}
-use Rattle.loader.specs.declared.LoaderAnswer.{LoaderAnswer}
-use Rattle.loader.specs.declared.LoaderAnswer.TheVariants as loader-answer
 use Rattle.loader_header.specs.Header.{LoaderRoom}
 use Rattle.loader.specs.Loader.{loader_in}
 use Rattle.loader.specs.Inside.{LoaderInside}
@@ -33,12 +28,12 @@ use Rattle.relocation.proofs.Entries.{own-symbol}
 use Rattle.field_overlap.specs.Overlap.{meets}
 use Rattle.field_overlap.proofs.Rule.{meets-none}
 use Rattle.loadable.specs.declared.Loadable.{Loadable}
-use Rattle.loadable.specs.declared.LoadableAnswer.{LoadableAnswer}
-use Rattle.loadable.specs.declared.LoadableAnswer.TheVariants.{Found, Refused}
 use Rattle.loader_entries.specs.Entries.{entry_check, entries_check, EntriesReady}
 use Rattle.loader_entries.proofs.Readable.{field-inside}
 use Rattle.loadable.specs.Loadable.{loadable_with, loadable_in, loadable_at}
 use Rattle.loadable.specs.Valid.{Valid}
+use Rattle.std.specs.Prelude.{Err, Ok, Result}
+use Rattle.refusal.specs.declared.Refusal.{Refusal}
 
 -- ---- what is known before the entries are judged
 
@@ -53,7 +48,7 @@ part_small len p l h (no s) = omega arith
 pub entries-inside : (file : List ℕ) (m : Module) (t : LoaderTables) → ModuleInside file m → LoaderInside file m t → EntriesInside file m.format t
 entries-inside file m t i l = record { small = i.small; few = l.few; inside = l.relocations }
 
-pub entries-ready : (file : List ℕ) (m : Module) (t : LoaderTables) → ModuleInside file m → loader_in file m ≡ loader-answer.Found t → EntriesReady file m.format m.parts t
+pub entries-ready : (file : List ℕ) (m : Module) (t : LoaderTables) → ModuleInside file m → loader_in file m ≡ Ok t → EntriesReady file m.format m.parts t
 entries-ready file m t i e =
     let l = loader-inside file m t (loader-room file m i) e in
     record {
@@ -64,30 +59,30 @@ entries-ready file m t i e =
     }
 
 module _ (file : List ℕ) (f : Format) (p : Parts) (t : LoaderTables) where
-  symbol-known : (i : ℕ) → own_at file f p t i ≡ verdict.Accepted → (entry_in file f t i).symbol < 3 + t.nsyms
+  symbol-known : (i : ℕ) → own_at file f p t i ≡ Ok tt → (entry_in file f t i).symbol < 3 + t.nsyms
   unfolding own_at
   symbol-known i e = ltb-true (entry_in file f t i).symbol (3 + t.nsyms) (own-symbol f p t.nsyms i (entry_in file f t i) e)
 
   -- ---- entries that are accepted
 
-  own-accepted : entries_check file f p t ≡ verdict.Accepted → (i : ℕ) → i < t.nreloc → entry_check file f p t i ≡ verdict.Accepted
+  own-accepted : entries_check file f p t ≡ Ok tt → (i : ℕ) → i < t.nreloc → entry_check file f p t i ≡ Ok tt
   unfolding entries_check
   own-accepted e i l = first-all (entry_check file f p t) t.nreloc 0 e i (omega arith) (omega arith)
 
-  entry-own : (i : ℕ) → entry_check file f p t i ≡ verdict.Accepted → own_at file f p t i ≡ verdict.Accepted
+  entry-own : (i : ℕ) → entry_check file f p t i ≡ Ok tt → own_at file f p t i ≡ Ok tt
   unfolding entry_check
   entry-own i e = accepted-first (own_at file f p t i) (refuse_if (meets (place_at file f p t) i) (Overlap (record { 0 = i }))) e
 
-  entry-apart : (i : ℕ) → entry_check file f p t i ≡ verdict.Accepted → meets (place_at file f p t) i ≡ false
+  entry-apart : (i : ℕ) → entry_check file f p t i ≡ Ok tt → meets (place_at file f p t) i ≡ false
   unfolding entry_check
   entry-apart i e = accepted-test (meets (place_at file f p t) i) (Overlap (record { 0 = i })) (accepted-rest (own_at file f p t i) (refuse_if (meets (place_at file f p t) i) (Overlap (record { 0 = i }))) e)
 
 -- ---- the whole module
 
-checked-valid : (file : List ℕ) (m : Module) (t : LoaderTables) → ModuleInside file m → LoaderInside file m t → entries_check file m.format m.parts t ≡ verdict.Accepted → Valid file (record { layout = m; tables = t })
+checked-valid : (file : List ℕ) (m : Module) (t : LoaderTables) → ModuleInside file m → LoaderInside file m t → entries_check file m.format m.parts t ≡ Ok tt → Valid file (record { layout = m; tables = t })
 checked-valid file m t i l e =
     let each = own-accepted file m.format m.parts t e in
-    let own : (j : ℕ) → j < t.nreloc → own_at file m.format m.parts t j ≡ verdict.Accepted = λ j b. entry-own file m.format m.parts t j (each j b) in
+    let own : (j : ℕ) → j < t.nreloc → own_at file m.format m.parts t j ≡ (Ok tt) = λ j b. entry-own file m.format m.parts t j (each j b) in
     record {
       sections = i;
       loader = l;
@@ -99,22 +94,22 @@ checked-valid file m t i l e =
     }
 
 -- of an answer: it holds where a loadable module is found
-abbrev Answered : List ℕ → LoadableAnswer → Type 0
-Answered file (Found l) = Valid file l
-Answered file (Refused x) = Unit {0}
+abbrev Answered : List ℕ → Result Loadable Refusal → Type 0
+Answered file (Ok l) = Valid file l
+Answered file (Err x) = Unit {0}
 
-by-tables : (file : List ℕ) (m : Module) (a : LoaderAnswer) → ModuleInside file m → loader_in file m ≡ a → Answered file (loadable_with file m a)
+by-tables : (file : List ℕ) (m : Module) (a : Result LoaderTables Refusal) → ModuleInside file m → loader_in file m ≡ a → Answered file (loadable_with file m a)
 unfolding loadable_with
-by-tables file m (loader-answer.Refused x) i e = tt
-by-tables file m (loader-answer.Found t) i e =
+by-tables file m (Err x) i e = tt
+by-tables file m (Ok t) i e =
     by-verdict (Answered file) (entries_check file m.format m.parts t) (checked-valid file m t i (loader-inside file m t (loader-room file m i) e)) (λ x. tt)
 
-by-module : (file : List ℕ) (a : ModuleAnswer) → module_at file ≡ a → Answered file (loadable_in file a)
+by-module : (file : List ℕ) (a : Result Module Refusal) → module_at file ≡ a → Answered file (loadable_in file a)
 unfolding loadable_in
-by-module file (module-answer.Refused x) e = tt
-by-module file (module-answer.Found m) e = by-tables file m (loader_in file m) (module-inside file m e) refl
+by-module file (Err x) e = tt
+by-module file (Ok m) e = by-tables file m (loader_in file m) (module-inside file m e) refl
 
 -- an accepted module is valid
-pub loadable-valid : (file : List ℕ) (l : Loadable) → loadable_at file ≡ Found l → Valid file l
+pub loadable-valid : (file : List ℕ) (l : Loadable) → loadable_at file ≡ Ok l → Valid file l
 unfolding loadable_at
 loadable-valid file l e = subst (Answered file) e (by-module file (module_at file) refl)

@@ -1,35 +1,31 @@
 -- Which files are loadable modules: the module's sections, its loader section, then its relocation entries.
-use Rattle.std.specs.Prelude.{ℕ, List}
+use Rattle.std.specs.Prelude.{ℕ, List, Err, Ok, Result}
 use Rattle.format.specs.Layout.{bits_of}
 use Rattle.refusal.specs.Refusal.{accepted_head}
 use Rattle.module.specs.declared.Module.{Module}
-use Rattle.module.specs.declared.ModuleAnswer.{ModuleAnswer}
-use Rattle.module.specs.declared.ModuleAnswer.TheVariants as found
 use Rattle.module.specs.Module.{module_at}
-use Rattle.loader.specs.declared.LoaderAnswer.{LoaderAnswer}
-use Rattle.loader.specs.declared.LoaderAnswer.TheVariants as loader
 use Rattle.loader.specs.Loader.{loader_in}
 use Rattle.loadable.specs.declared.Loadable.{Loadable}
-use Rattle.loadable.specs.declared.LoadableAnswer.{LoadableAnswer}
-use Rattle.loadable.specs.declared.LoadableAnswer.TheVariants.{Found, Refused}
 use Rattle.loadable.specs.declared.PartReport.{PartReport}
 use Rattle.loadable.specs.declared.AnchorReport.{AnchorReport}
 use Rattle.loadable.specs.declared.ModuleReport.{ModuleReport}
 use Rattle.loader_entries.specs.Entries.{entries_check}
 use Rattle.refusal.specs.Order.{by_verdict}
 use Rattle.offset.specs.Report.{refusal_head}
+use Rattle.refusal.specs.declared.Refusal.{Refusal}
+use Rattle.loader_header.specs.declared.LoaderTables.{LoaderTables}
 
 -- the relocation entries of a module whose loader section is accepted
-unfoldable pub loadable_with : List ℕ → Module → LoaderAnswer → LoadableAnswer
-loadable_with file m (loader.Refused x) = Refused x
-loadable_with file m (loader.Found t) = by_verdict (entries_check file m.format m.parts t) (Found (record { layout = m; tables = t })) Refused
+unfoldable pub loadable_with : List ℕ → Module → Result LoaderTables Refusal → Result Loadable Refusal
+loadable_with file m (Err x) = Err x
+loadable_with file m (Ok t) = by_verdict (entries_check file m.format m.parts t) (Ok (record { layout = m; tables = t })) Err
 
-unfoldable pub loadable_in : List ℕ → ModuleAnswer → LoadableAnswer
-loadable_in file (found.Refused x) = Refused x
-loadable_in file (found.Found m) = loadable_with file m (loader_in file m)
+unfoldable pub loadable_in : List ℕ → Result Module Refusal → Result Loadable Refusal
+loadable_in file (Err x) = Err x
+loadable_in file (Ok m) = loadable_with file m (loader_in file m)
 
 -- what module_of answers: opening, the module's sections, its loader section, its entries
-unfoldable pub loadable_at : List ℕ → LoadableAnswer
+unfoldable pub loadable_at : List ℕ → Result Loadable Refusal
 loadable_at file = loadable_in file (module_at file)
 
 -- ---- the answer in document 01's numbers
@@ -60,9 +56,9 @@ report_of_found l =
     }
 
 -- all 0 on a refusal, but for its head
-abbrev pub report_of_module : List ℕ → LoadableAnswer → ModuleReport
-report_of_module file (Found l) = report_of_found l
-report_of_module file (Refused x) =
+abbrev pub report_of_module : List ℕ → Result Loadable Refusal → ModuleReport
+report_of_module file (Ok l) = report_of_found l
+report_of_module file (Err x) =
     record {
       head = refusal_head file x;
       bits = 0;

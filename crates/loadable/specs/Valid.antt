@@ -1,6 +1,5 @@
 -- What an accepted module guarantees. Images and moves rest on this and on nothing else.
-use Rattle.std.specs.Prelude.{ℕ, ◌<◌, ◌+◌, ◌≡◌, List}
-use Rattle.refusal.specs.declared.Verdict.TheVariants.{Accepted}
+use Rattle.std.specs.Prelude.{ℕ, ◌<◌, ◌+◌, ◌≡◌, List, Ok}
 use Rattle.module.specs.Inside.{ModuleInside}
 use Rattle.loader.specs.Inside.{LoaderInside}
 use Rattle.relocation.specs.Relocation.{entry_in, own_at, place_at, EntriesInside, PlaceInside}
@@ -13,7 +12,7 @@ pub record Valid (file : List ℕ) (l : Loadable) : Type 0 where
   pub loader : LoaderInside file l.layout l.tables
   pub entries : EntriesInside file l.layout.format l.tables
   -- each entry is accepted by itself
-  pub own : (i : ℕ) → i < l.tables.nreloc → own_at file l.layout.format l.layout.parts l.tables i ≡ Accepted
+  pub own : (i : ℕ) → i < l.tables.nreloc → own_at file l.layout.format l.layout.parts l.tables i ≡ Ok tt
   -- its field is inside its section
   pub inside : (i : ℕ) → i < l.tables.nreloc → PlaceInside l.layout.parts (place_at file l.layout.format l.layout.parts l.tables i)
   -- its symbol is text, data, bss or in the table

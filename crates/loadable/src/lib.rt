@@ -5,23 +5,16 @@ ghost use Rattle.std.specs.Prelude.{◌≡◌};
 ghost use Rattle.module.specs.Inside.{ModuleInside};
 ghost use Rattle.loadable.specs.Loadable.{loadable_in, loadable_at, part_report, anchor_report, report_of_found, report_of_module, module_report};
 
-use loader::LoaderAnswer;
 use loader_header::LoaderTables;
-use module::{Anchor, Module, ModuleAnswer};
+use module::{Anchor, Module};
 use parts::Part;
-use refusal::{Head, Refusal, Verdict};
+use refusal::{Head, Refusal};
 
 // A module that can be loaded: its sections, and where its loader section's tables lie.
 #[derive(Clone, Copy)]
 pub struct Loadable {
     pub layout: Module,
     pub tables: LoaderTables,
-}
-
-#[derive(Clone, Copy)]
-pub enum LoadableAnswer {
-    Found(Loadable),
-    Refused(Refusal),
 }
 
 // A section of a module.
@@ -60,35 +53,24 @@ pub struct ModuleReport {
 }
 
 // The loader section and the relocation entries of a module whose sections are accepted.
-fn load(file: &[u8], m: Module) -> LoadableAnswer
+fn load(file: &[u8], m: Module) -> Result<Loadable, Refusal>
     requires { ModuleInside file.now m }
-    ensures { result ≡ loadable_in file.now (ModuleAnswer.Found m) }
+    ensures { result ≡ loadable_in file.now (Ok m) }
 {
-    let a = loader::read_loader(file, m);
-    match a {
-        LoaderAnswer::Refused(x) => LoadableAnswer::Refused(x),
-        LoaderAnswer::Found(tables) => {
-            let f = m.format;
-            let p = m.parts;
-            let v = loader_entries::check_entries(file, f, p, tables);
-            match v {
-                Verdict::Refused(x) => LoadableAnswer::Refused(x),
-                Verdict::Accepted => LoadableAnswer::Found(Loadable { layout: m, tables }),
-            }
-        }
-    }
+    let tables = loader::read_loader(file, m)?;
+    let f = m.format;
+    let p = m.parts;
+    loader_entries::check_entries(file, f, p, tables)?;
+    Ok(Loadable { layout: m, tables })
 }
 
 // The module in a file: every number that a host needs of it.
-pub fn module_of(file: &[u8]) -> LoadableAnswer
+pub fn module_of(file: &[u8]) -> Result<Loadable, Refusal>
     ensures cause { result ≡ loadable_at file.now }
     ensures report { report_of_module file.now result ≡ module_report file.now }
 {
-    let a = module_layout::find_module(file);
-    match a {
-        ModuleAnswer::Refused(x) => LoadableAnswer::Refused(x),
-        ModuleAnswer::Found(m) => load(file, m),
-    }
+    let m = module_layout::find_module(file)?;
+    load(file, m)
 }
 
 fn report_part(p: Part) -> PartReport
@@ -115,7 +97,7 @@ fn report_anchor(a: Anchor) -> AnchorReport
 }
 
 fn report_refused(file: &[u8], x: Refusal) -> ModuleReport
-    ensures { result ≡ report_of_module file.now (LoadableAnswer.Refused x) }
+    ensures { result ≡ report_of_module file.now (Err x) }
 {
     let part = PartReport {
         number: 0,
@@ -172,11 +154,11 @@ fn report_found(l: Loadable) -> ModuleReport
     }
 }
 
-pub fn report_module(file: &[u8], a: LoadableAnswer) -> ModuleReport
+pub fn report_module(file: &[u8], a: Result<Loadable, Refusal>) -> ModuleReport
     ensures { result ≡ report_of_module file.now a }
 {
     match a {
-        LoadableAnswer::Refused(x) => report_refused(file, x),
-        LoadableAnswer::Found(l) => report_found(l),
+        Err(x) => report_refused(file, x),
+        Ok(l) => report_found(l),
     }
 }

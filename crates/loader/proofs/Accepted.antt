@@ -16,37 +16,36 @@ use Rattle.format.specs.Limit.{file_limit, loader_symbol_limit, relocation_limit
 use Rattle.format.specs.Range.{bytes_of}
 use Rattle.refusal.specs.declared.Refusal.TheVariants.{Loader}
 use Rattle.refusal.specs.declared.LoaderItem.TheVariants.{ShortHeader}
-use Rattle.refusal.specs.declared.Verdict.TheVariants.{Accepted}
 use Rattle.refusal.specs.Order.{◌or_else◌, refuse_if}
 use Rattle.refusal.proofs.Order.{accepted-first, accepted-rest, accepted-test, first-all, by-verdict}
 use Rattle.loader_header.specs.declared.LoaderHeader.{LoaderHeader}
 use Rattle.loader_header.specs.Header.{loader_header_at, table_past, numbers_check, place_of, tables_of, places_check, header_check, LoaderRoom, PlacesGood}
 use Rattle.module.specs.declared.Module.{Module}
 use Rattle.loader_header.specs.declared.LoaderTables.{LoaderTables}
-use Rattle.loader.specs.declared.LoaderAnswer.{LoaderAnswer}
-use Rattle.loader.specs.declared.LoaderAnswer.TheVariants as answer
 use Rattle.loader_symbol.specs.Symbol.{TablesInside}
 use Rattle.loader.specs.Loader.{tables_in, symbols_check, loader_check, loader_in}
 use Rattle.loader.specs.Inside.{LoaderInside}
 use Rattle.loader_header.proofs.Places.{header-long, table-in, place-empty, place-full}
+use Rattle.std.specs.Prelude.{Err, Ok, Result}
+use Rattle.refusal.specs.declared.Refusal.{Refusal}
 
 -- what an accepted section has
-module _ (file : List ℕ) (f : Format) (start size : ℕ) (e : header_check file f start size ≡ Accepted) where
-  tests : (refuse_if (ltb size (loader_layout f).length) (Loader ShortHeader) or_else numbers_check (loader_header_at f start file) or_else places_check file f start size (loader_header_at f start file)) ≡ Accepted
+module _ (file : List ℕ) (f : Format) (start size : ℕ) (e : header_check file f start size ≡ Ok tt) where
+  tests : (refuse_if (ltb size (loader_layout f).length) (Loader ShortHeader) or_else numbers_check (loader_header_at f start file) or_else places_check file f start size (loader_header_at f start file)) ≡ Ok tt
   unfolding header_check
   tests = e
 
   pub long-enough : (loader_layout f).length ≤ size
   long-enough = ltb-false size (loader_layout f).length (accepted-test (ltb size (loader_layout f).length) _ (accepted-first (refuse_if (ltb size (loader_layout f).length) (Loader ShortHeader)) _ tests))
 
-  pub numbers-good : numbers_check (loader_header_at f start file) ≡ Accepted
+  pub numbers-good : numbers_check (loader_header_at f start file) ≡ Ok tt
   numbers-good = accepted-first (numbers_check (loader_header_at f start file)) _ (accepted-rest (refuse_if (ltb size (loader_layout f).length) (Loader ShortHeader)) _ tests)
 
-  pub places-good : places_check file f start size (loader_header_at f start file) ≡ Accepted
+  pub places-good : places_check file f start size (loader_header_at f start file) ≡ Ok tt
   places-good = accepted-rest (numbers_check (loader_header_at f start file)) _ (accepted-rest (refuse_if (ltb size (loader_layout f).length) (Loader ShortHeader)) _ tests)
 
 -- the limits
-module _ (h : LoaderHeader) (e : numbers_check h ≡ Accepted) where
+module _ (h : LoaderHeader) (e : numbers_check h ≡ Ok tt) where
   pub few : (h.nsyms ≤ loader_symbol_limit) × (h.nreloc ≤ relocation_limit)
   few = unfold numbers_check in
       let r = accepted-rest (refuse_if (not (eqb h.version 1 || eqb h.version 2)) _) _ e in (
@@ -55,7 +54,7 @@ module _ (h : LoaderHeader) (e : numbers_check h ≡ Accepted) where
       )
 
 -- the places
-pub places-known : (file : List ℕ) (f : Format) (start size : ℕ) (h : LoaderHeader) → places_check file f start size h ≡ Accepted → start + size ≤ file_limit → PlacesGood f start size h
+pub places-known : (file : List ℕ) (f : Format) (start size : ℕ) (h : LoaderHeader) → places_check file f start size h ≡ Ok tt → start + size ≤ file_limit → PlacesGood f start size h
 unfolding places_check
 places-known file f start size h e room =
     let a = table_past h.symoff (h.nsyms * loader_symbol_length) size in
@@ -75,7 +74,7 @@ places-known file f start size h e room =
     }
 
 -- the import ids have their strings
-ids-full : (file : List ℕ) (f : Format) (start size : ℕ) (h : LoaderHeader) → places_check file f start size h ≡ Accepted → 3 * h.nimpid ≤ zeros_in (bytes_of file (tables_of f start h).ids)
+ids-full : (file : List ℕ) (f : Format) (start size : ℕ) (h : LoaderHeader) → places_check file f start size h ≡ Ok tt → 3 * h.nimpid ≤ zeros_in (bytes_of file (tables_of f start h).ids)
 unfolding places_check
 ids-full file f start size h e =
     let a = table_past h.symoff (h.nsyms * loader_symbol_length) size in
@@ -107,7 +106,7 @@ pub record Known (file : List ℕ) (f : Format) (start size : ℕ) : Type 0 wher
   pub places : PlacesGood f start size (loader_header_at f start file)
   pub tables : TablesInside file (tables_of f start (loader_header_at f start file))
 
-pub loader-known : (file : List ℕ) (f : Format) (start size : ℕ) → header_check file f start size ≡ Accepted → LoaderRoom (length file) start size → Known file f start size
+pub loader-known : (file : List ℕ) (f : Format) (start size : ℕ) → header_check file f start size ≡ Ok tt → LoaderRoom (length file) start size → Known file f start size
 loader-known file f start size e room =
     let h = loader_header_at f start file in
     let long = long-enough file f start size e in
@@ -122,7 +121,7 @@ loader-known file f start size e room =
     }
 
 -- all that is known of the tables that are found
-tables-known : (file : List ℕ) (m : Module) → LoaderRoom (length file) m.parts.loader.start.0 m.parts.loader.size → loader_check file m ≡ Accepted → LoaderInside file m (tables_in file m)
+tables-known : (file : List ℕ) (m : Module) → LoaderRoom (length file) m.parts.loader.start.0 m.parts.loader.size → loader_check file m ≡ Ok tt → LoaderInside file m (tables_in file m)
 unfolding loader_check symbols_check tables_in tables_of
 tables-known file m room e =
     let f = m.format in
@@ -142,10 +141,10 @@ tables-known file m room e =
     }
 
 -- of an answer: it holds where tables are found
-abbrev Answered : List ℕ → Module → LoaderAnswer → Type 0
-Answered file m (answer.Found t) = LoaderInside file m t
-Answered file m (answer.Refused x) = Unit {0}
+abbrev Answered : List ℕ → Module → Result LoaderTables Refusal → Type 0
+Answered file m (Ok t) = LoaderInside file m t
+Answered file m (Err x) = Unit {0}
 
-pub loader-inside : (file : List ℕ) (m : Module) (t : LoaderTables) → LoaderRoom (length file) m.parts.loader.start.0 m.parts.loader.size → loader_in file m ≡ answer.Found t → LoaderInside file m t
+pub loader-inside : (file : List ℕ) (m : Module) (t : LoaderTables) → LoaderRoom (length file) m.parts.loader.start.0 m.parts.loader.size → loader_in file m ≡ Ok t → LoaderInside file m t
 unfolding loader_in
 loader-inside file m t room e = subst (Answered file m) e (by-verdict (Answered file m) (loader_check file m) (tables-known file m room) (λ x. tt))

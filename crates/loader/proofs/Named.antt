@@ -17,7 +17,6 @@ use Rattle.refusal.specs.declared.LoaderItem.{LoaderItem}
 use Rattle.refusal.specs.declared.LoaderItem.TheVariants.{ShortHeader, Version, SymbolsPast, RelocationsPast, ImportIdsPast, StringsPast}
 use Rattle.refusal.specs.declared.Refusal.{Refusal}
 use Rattle.refusal.specs.declared.Refusal.TheVariants as refusal
-use Rattle.refusal.specs.declared.Verdict.TheVariants as verdict
 use Rattle.refusal.proofs.Causes.{Causes, cause-if, cause-test, cause-then, cause-first}
 use Rattle.file_header.specs.declared.FileHeader.{FileHeader}
 use Rattle.file_header.specs.Header.{header_at}
@@ -30,15 +29,15 @@ use Rattle.loader_header.specs.declared.LoaderHeader.{LoaderHeader}
 use Rattle.loader_header.specs.Header.{loader_header_at, table_past, tables_of, numbers_check, places_check, header_check, LoaderRoom}
 use Rattle.loader_header.proofs.Places.{place-full}
 use Rattle.loader_symbol.specs.Symbol.{is_placed, is_found, name_in, entry_start, entry_at, entry_check, symbol_check}
-use Rattle.loader.specs.declared.LoaderAnswer.{LoaderAnswer}
-use Rattle.loader.specs.declared.LoaderAnswer.TheVariants as answer
 use Rattle.loader.specs.Loader.{tables_in, symbols_check, loader_check}
 use Rattle.loader.proofs.Accepted.{Known, loader-known}
+use Rattle.std.specs.Prelude.{Err, Ok, Result}
+use Rattle.loader_header.specs.declared.LoaderTables.{LoaderTables}
 
 -- what holds of the refusal of a loader section's answer
-abbrev pub LoaderCauses : (Refusal → Type 0) → LoaderAnswer → Type 0
-LoaderCauses P (answer.Found t) = Unit {0}
-LoaderCauses P (answer.Refused x) = P x
+abbrev pub LoaderCauses : (Refusal → Type 0) → Result LoaderTables Refusal → Type 0
+LoaderCauses P (Ok t) = Unit {0}
+LoaderCauses P (Err x) = P x
 
 -- a table that is not empty starts at its offset
 pub not-empty : (n k size : ℕ) → k < n → 0 < size → n * size ≡ 0 → ⊥
@@ -83,7 +82,7 @@ module _ (file : List ℕ) (m : Module) (l : LoaderPlace file m) where
   header_is = rw (l.format, ← l.start) refl
 
   module _ (room : LoaderRoom (length file) m.parts.loader.start.0 m.parts.loader.size)
-      (e : header_check file m.format m.parts.loader.start.0 m.parts.loader.size ≡ verdict.Accepted) where
+      (e : header_check file m.format m.parts.loader.start.0 m.parts.loader.size ≡ Ok tt) where
     known : Known file m.format m.parts.loader.start.0 m.parts.loader.size
     known = loader-known file m.format m.parts.loader.start.0 m.parts.loader.size e room
 

@@ -1,13 +1,12 @@
 -- The loader section of a module: its header and tables, then every loader symbol.
-use Rattle.std.specs.Prelude.{ℕ, List}
-use Rattle.refusal.specs.declared.Verdict.{Verdict}
+use Rattle.std.specs.Prelude.{ℕ, List, Err, Ok, Result}
 use Rattle.refusal.specs.Order.{◌or_else◌, first_of, by_verdict}
 use Rattle.module.specs.declared.Module.{Module}
 use Rattle.loader_header.specs.declared.LoaderTables.{LoaderTables}
-use Rattle.loader.specs.declared.LoaderAnswer.{LoaderAnswer}
-use Rattle.loader.specs.declared.LoaderAnswer.TheVariants.{Found, Refused}
 use Rattle.loader_header.specs.Header.{loader_header_at, tables_of, header_check}
 use Rattle.loader_symbol.specs.Symbol.{symbol_check}
+use Rattle.refusal.specs.declared.Refusal.{Refusal}
+use Rattle.refusal.specs.Verdict.{Verdict}
 
 -- where the tables of the module m lie
 unfoldable pub tables_in : List ℕ → Module → LoaderTables
@@ -22,5 +21,5 @@ unfoldable pub loader_check : List ℕ → Module → Verdict
 loader_check file m =
     header_check file m.format m.parts.loader.start.0 m.parts.loader.size or_else symbols_check file m (tables_in file m)
 
-unfoldable pub loader_in : List ℕ → Module → LoaderAnswer
-loader_in file m = by_verdict (loader_check file m) (Found (tables_in file m)) Refused
+unfoldable pub loader_in : List ℕ → Module → Result LoaderTables Refusal
+loader_in file m = by_verdict (loader_check file m) (Ok (tables_in file m)) Err

@@ -11,32 +11,20 @@ use format::Format;
 use loader_header::LoaderTables;
 use module::Module;
 use parts::Parts;
-use refusal::{Refusal, Verdict};
+use refusal::Refusal;
 
-#[derive(Clone, Copy)]
-pub enum LoaderAnswer {
-    Found(LoaderTables),
-    Refused(Refusal),
-}
-
-fn check_symbols(file: &[u8], f: Format, p: Parts, t: LoaderTables) -> Verdict
+fn check_symbols(file: &[u8], f: Format, p: Parts, t: LoaderTables) -> Result<(), Refusal>
     requires { TablesInside file.now t }
     ensures { result ≡ first_of (symbol_check file.now f p t) 0 t.nsyms }
 {
-    let count = t.nsyms;
-    let mut k: u64 = 0;
-    while k < count {
-        let v = loader_symbol_check::check_symbol(file, f, p, t, k);
-        if refusal::refuses(v) {
-            return v;
-        }
-        k += 1;
+    for k in 0..t.nsyms {
+        loader_symbol_check::check_symbol(file, f, p, t, k)?;
     }
-    Verdict::Accepted
+    Ok(())
 }
 
 // The loader section of a module: LOADER, LIMIT 2 and 3, then every loader symbol.
-pub fn read_loader(file: &[u8], m: Module) -> LoaderAnswer
+pub fn read_loader(file: &[u8], m: Module) -> Result<LoaderTables, Refusal>
     requires { LoaderRoom (length file.now) m.parts.loader.start.0 m.parts.loader.size }
     ensures { result ≡ loader_in file.now m }
 {
@@ -44,15 +32,9 @@ pub fn read_loader(file: &[u8], m: Module) -> LoaderAnswer
     let p = m.parts;
     let section = p.loader;
     let from = section.start;
-    let v = loader_header::check_header(file, f, from.0, section.size);
-    if let Verdict::Refused(x) = v {
-        return LoaderAnswer::Refused(x);
-    }
+    loader_header::check_header(file, f, from.0, section.size)?;
     let h = loader_header::read_header(file, f, from.0 as usize);
     let t = loader_header::find_tables(f, from.0, section.size, h);
-    let w = check_symbols(file, f, p, t);
-    match w {
-        Verdict::Refused(x) => LoaderAnswer::Refused(x),
-        Verdict::Accepted => LoaderAnswer::Found(t),
-    }
+    check_symbols(file, f, p, t)?;
+    Ok(t)
 }

@@ -5,14 +5,11 @@ use mathlib.Core.List.{List}
 use Prim.Native.Nat.{ℕ, zero, suc, ◌-◌, ◌≤◌, ◌<◌}
 use borrow.Author.Tests.{ltb-true, ltb-false}
 use lib.Dec.{ltb}
-use native.Mathlib.Decide.{ℕ_discrete}
 use native.Mathlib.Numerals.{add-one}
 use native.Mathlib.Omega.{arith}
 use Rattle.word.proofs.Test.{either}
 use Rattle.format.specs.declared.Format.{Format}
 use Rattle.refusal.specs.declared.Refusal.TheVariants.{Overlap}
-use Rattle.refusal.specs.declared.Verdict.{Verdict}
-use Rattle.refusal.specs.declared.Verdict.TheVariants.{Accepted, Refused}
 use Rattle.refusal.specs.Refusal.{is_refused}
 use Rattle.refusal.specs.Order.{◌or_else◌, refuse_if, first_of}
 use Rattle.refusal.proofs.Order.{go_on, stop, first-start, first-turn, first-stop, first-end}
@@ -22,6 +19,8 @@ use Rattle.relocation.specs.Relocation.{own_at, place_at}
 use Rattle.field_overlap.specs.Overlap.{meets, First}
 use Rattle.field_overlap.proofs.Rule.{first-before, first-here}
 use Rattle.loader_entries.specs.Entries.{entry_check, FirstRefused, verdict_at}
+use Rattle.std.specs.Prelude.{Err, Ok}
+use Rattle.refusal.specs.Verdict.{Verdict}
 
 module _ (check : ℕ → Verdict) where
   -- past checks that do not refuse
@@ -35,22 +34,8 @@ module _ (check : ℕ → Verdict) where
   first-is : (n x : ℕ) → x < n → ((i : ℕ) → i < x → is_refused (check i) ≡ false) → is_refused (check x) ≡ true → first_of check 0 n ≡ check x
   first-is n x h none e = first_past n x (omega arith) none ∙ first-stop check n x h e
 
-  first-none : (n : ℕ) → ((i : ℕ) → i < n → is_refused (check i) ≡ false) → first_of check 0 n ≡ Accepted
+  first-none : (n : ℕ) → ((i : ℕ) → i < n → is_refused (check i) ≡ false) → first_of check 0 n ≡ Ok tt
   first-none n none = first_past n n (omega arith) none ∙ first-end check n n (omega arith)
-
-  -- a loop that looks for the first refusal: a turn, a refusal, its end
-  pub none-next : (i : ℕ) → ((j : ℕ) → j < i → is_refused (check j) ≡ false) → is_refused (check i) ≡ false → (j : ℕ) → j < suc i → is_refused (check j) ≡ false
-  none-next i h e j l = by_place (ℕ_discrete i j)
-    where
-      by_place : Dec (i ≡ j) → is_refused (check j) ≡ false
-      by_place (yes p) = ap (λ (x : ℕ). is_refused (check x)) (sym p) ∙ e
-      by_place (no p) = h j (omega arith)
-
-  pub refused-here : (n i : ℕ) → i < n → ((j : ℕ) → j < i → is_refused (check j) ≡ false) → is_refused (check i) ≡ true → FirstRefused check n i
-  refused-here n i l h e = record { within = omega arith; before = h; here = λ _. e }
-
-  pub none-refused : (n i : ℕ) → n ≤ i → ((j : ℕ) → j < i → is_refused (check j) ≡ false) → FirstRefused check n n
-  none-refused n i l h = record { within = omega arith; before = λ j k. h j (omega arith); here = λ k. absurd (omega arith) }
 
 -- an entry that neither check refuses
 passes : (v : Verdict) (t : Bool) (i : ℕ) → is_refused v ≡ false → t ≡ false → is_refused (v or_else refuse_if t (Overlap (record { 0 = i }))) ≡ false
@@ -62,10 +47,10 @@ module _ (file : List ℕ) (f : Format) (p : Parts) (t : LoaderTables) {n k x : 
   fine i l = passes (own_at file f p t i) (meets (place_at file f p t) i) i (own.before i (omega (arith, over.within))) (first-before (place_at file f p t) k x over i l)
 
   -- fields meet before any entry is refused by itself
-  pub overlap-first : x < k → Refused (Overlap (record { 0 = x })) ≡ first_of (entry_check file f p t) 0 n
+  pub overlap-first : x < k → Err (Overlap (record { 0 = x })) ≡ first_of (entry_check file f p t) 0 n
   overlap-first h = sym (first-is (entry_check file f p t) n x (omega (arith, own.within)) fine (ap is_refused here) ∙ here)
     where
-      here : entry_check file f p t x ≡ Refused (Overlap (record { 0 = x }))
+      here : entry_check file f p t x ≡ Err (Overlap (record { 0 = x }))
       here = unfold entry_check in rw (go_on (own_at file f p t x) (refuse_if (meets (place_at file f p t) x) (Overlap (record { 0 = x }))) (own.before x h), first-here (place_at file f p t) k x over h) refl
 
   -- an entry is refused by itself, and no fields meet before it
@@ -75,7 +60,7 @@ module _ (file : List ℕ) (f : Format) (p : Parts) (t : LoaderTables) {n k x : 
       here : entry_check file f p t k ≡ own_at file f p t k
       here = unfold entry_check in stop (own_at file f p t k) (refuse_if (meets (place_at file f p t) k) (Overlap (record { 0 = k }))) (own.here l)
 
-  none_first : k ≤ x → n ≤ k → Accepted ≡ first_of (entry_check file f p t) 0 n
+  none_first : k ≤ x → n ≤ k → (Ok tt) ≡ first_of (entry_check file f p t) 0 n
   none_first h l = sym (first-none (entry_check file f p t) n (λ i u. fine i (omega arith)))
 
   -- no fields meet before the first entry that is refused by itself, if there is one

@@ -3,7 +3,6 @@ use Prim.Native.Nat.{ℕ}
 use mathlib.Core.Path.{◌≡◌}
 use mathlib.Core.List.{List}
 use Rattle.format.specs.declared.Format.{Format}
-use Rattle.refusal.specs.declared.Verdict.TheVariants as verdict
 use Rattle.refusal.proofs.Order.{accepts}
 use Rattle.parts.specs.declared.Parts.{Parts}
 use Rattle.loader_header.specs.declared.LoaderTables.{LoaderTables}
@@ -11,9 +10,10 @@ use Rattle.relocation.specs.Relocation.{entry_in, own_at, place_at, PlaceInside}
 use Rattle.relocation.proofs.Entries.{place_inside}
 use Rattle.field_overlap.specs.Overlap.{Readable}
 use Rattle.loader_entries.specs.Entries.{FirstRefused, EntriesReady}
+use Rattle.std.specs.Prelude.{Ok}
 
 module _ (file : List ℕ) (f : Format) (p : Parts) (t : LoaderTables) where
-  pub field-inside : (i : ℕ) → own_at file f p t i ≡ verdict.Accepted → PlaceInside p (place_at file f p t i)
+  pub field-inside : (i : ℕ) → own_at file f p t i ≡ Ok tt → PlaceInside p (place_at file f p t i)
   unfolding own_at place_at
   field-inside i e = place_inside f p t.nsyms i (entry_in file f t i) e
 

@@ -1,16 +1,15 @@
 -- Every relocation entry of a module, in order: THREAD, LREL, OVERLAP.
-use Rattle.std.specs.Prelude.{ℕ, ◌≤◌, ◌<◌, ◌≡◌, true, false, cond, ltb, List}
+use Rattle.std.specs.Prelude.{ℕ, ◌≤◌, ◌<◌, ◌≡◌, true, false, cond, ltb, List, Ok}
 use Rattle.format.specs.declared.Format.{Format}
 use Rattle.format.specs.Limit.{file_limit, loader_symbol_limit}
 use Rattle.refusal.specs.declared.Refusal.TheVariants.{Overlap}
-use Rattle.refusal.specs.declared.Verdict.{Verdict}
-use Rattle.refusal.specs.declared.Verdict.TheVariants.{Accepted}
 use Rattle.refusal.specs.Refusal.{is_refused}
 use Rattle.refusal.specs.Order.{◌or_else◌, refuse_if, first_of}
 use Rattle.parts.specs.declared.Parts.{Parts}
 use Rattle.loader_header.specs.declared.LoaderTables.{LoaderTables}
 use Rattle.relocation.specs.Relocation.{own_at, place_at, EntriesInside}
 use Rattle.field_overlap.specs.Overlap.{meets}
+use Rattle.refusal.specs.Verdict.{Verdict}
 
 -- entry i: THREAD and LREL, then OVERLAP where its field meets an earlier entry's that isn't the same
 unfoldable pub entry_check : List ℕ → Format → Parts → LoaderTables → ℕ → Verdict
@@ -28,7 +27,7 @@ pub record FirstRefused (check : ℕ → Verdict) (n k : ℕ) : Type 0 where
 
 -- what check k of n says; there is none from n on
 abbrev pub verdict_at : (ℕ → Verdict) → ℕ → ℕ → Verdict
-verdict_at check n k = cond (ltb k n) (check k) Accepted
+verdict_at check n k = cond (ltb k n) (check k) (Ok tt)
 
 -- what the checks before these leave known
 pub record EntriesReady (file : List ℕ) (f : Format) (p : Parts) (t : LoaderTables) : Type 0 where

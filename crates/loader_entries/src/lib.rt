@@ -8,13 +8,13 @@ ghost use Rattle.loader_entries.specs.Entries.{entries_check, FirstRefused, verd
 use format::Format;
 use loader_header::LoaderTables;
 use parts::Parts;
-use refusal::{LoaderRelocation, Refusal, Verdict};
+use refusal::{LoaderRelocation, Refusal};
 
-// The first entry that THREAD or LREL refuses and its refusal, or how many entries there are.
+// The first entry that THREAD or LREL refuses and its refusal, or how many entries there are. Not an `Option`: the number is needed in both cases.
 #[derive(Clone, Copy)]
 pub struct OwnAnswer {
     pub first: u64,
-    pub verdict: Verdict,
+    pub verdict: Result<(), Refusal>,
 }
 
 fn first_refused(file: &[u8], f: Format, p: Parts, t: LoaderTables) -> OwnAnswer
@@ -23,25 +23,23 @@ fn first_refused(file: &[u8], f: Format, p: Parts, t: LoaderTables) -> OwnAnswer
     ensures verdict { result.verdict ≡ verdict_at (own_at file.now f p t) t.nreloc result.first }
 {
     let n = t.nreloc;
-    let mut i: u64 = 0;
-    while i < n {
+    for i in 0..n {
         let v = relocation::check_own(file, f, p, t, i);
-        if refusal::refuses(v) {
+        if v.is_err() {
             return OwnAnswer {
                 first: i,
                 verdict: v,
             };
         }
-        i += 1;
     }
     OwnAnswer {
         first: n,
-        verdict: Verdict::Accepted,
+        verdict: Ok(()),
     }
 }
 
 // The entries in order: an OVERLAP before the first entry that is refused by itself comes before that refusal.
-pub fn check_entries(file: &[u8], f: Format, p: Parts, t: LoaderTables) -> Verdict
+pub fn check_entries(file: &[u8], f: Format, p: Parts, t: LoaderTables) -> Result<(), Refusal>
     requires { EntriesReady file.now f p t }
     ensures { result ≡ entries_check file.now f p t }
 {
@@ -49,7 +47,7 @@ pub fn check_entries(file: &[u8], f: Format, p: Parts, t: LoaderTables) -> Verdi
     let k = own.first;
     let x = overlap::first_overlap(file, f, p, t, k);
     if x < k {
-        return Verdict::Refused(Refusal::Overlap(LoaderRelocation(x)));
+        return Err(Refusal::Overlap(LoaderRelocation(x)));
     }
     own.verdict
 }

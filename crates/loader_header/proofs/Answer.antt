@@ -6,11 +6,11 @@ use mathlib.Core.List.{List}
 use borrow.Author.Tests.{le-ltb}
 use Rattle.format.specs.declared.Format.{Format}
 use Rattle.format.specs.Layout.{loader_layout}
-use Rattle.refusal.specs.declared.Verdict.{Verdict}
 use Rattle.refusal.specs.Refusal.{is_refused}
 use Rattle.refusal.proofs.Order.{test-passed, go_on, stop}
 use Rattle.loader_header.specs.declared.LoaderHeader.{LoaderHeader}
 use Rattle.loader_header.specs.Header.{loader_header_at, numbers_check, places_check, header_check}
+use Rattle.refusal.specs.Verdict.{Verdict}
 
 module _ (file : List ℕ) (f : Format) (start size : ℕ) (l : (loader_layout f).length ≤ size) {h : LoaderHeader} (e : h ≡ loader_header_at f start file) where
   pub by-numbers : {v : Verdict} → v ≡ numbers_check h → is_refused v ≡ true → v ≡ header_check file f start size

@@ -12,10 +12,10 @@ use Rattle.format.specs.Range.{range, bytes_of}
 use Rattle.refusal.specs.declared.Refusal.TheVariants as refusal
 use Rattle.refusal.specs.declared.LimitItem.TheVariants.{LoaderSymbols, Relocations}
 use Rattle.refusal.specs.declared.LoaderItem.TheVariants.{ShortHeader, Version, SymbolsPast, RelocationsPast, ImportIdsPast, StringsPast}
-use Rattle.refusal.specs.declared.Verdict.{Verdict}
 use Rattle.refusal.specs.Order.{◌or_else◌, refuse_if}
 use Rattle.loader_header.specs.declared.LoaderHeader.{LoaderHeader}
 use Rattle.loader_header.specs.declared.LoaderTables.{LoaderTables}
+use Rattle.refusal.specs.Verdict.{Verdict}
 
 -- where the loader symbols start in the section: at 32 in XCOFF32
 unfoldable pub symbols_offset : Format → ℕ → List ℕ → ℕ

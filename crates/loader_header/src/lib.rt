@@ -9,7 +9,8 @@ ghost use Rattle.word.specs.Zero.{zeros_in};
 ghost use Rattle.loader_header.specs.Header.{symbols_offset, relocations_offset, loader_header_at, Bounded, table_past, numbers_check, place_of, tables_of, places_check, PlacesGood, header_check, LoaderRoom};
 
 use format::{FileOffset, FileRange, Format};
-use refusal::{LimitItem, LoaderItem, Refusal, Verdict};
+use refusal::{LimitItem, LoaderItem, Refusal};
+use word::Width;
 
 // The loader header's numbers; offsets count from the section's start.
 #[derive(Clone, Copy)]
@@ -44,7 +45,7 @@ fn symbols_offset(file: &[u8], f: Format, base: usize) -> u64
 {
     match f {
         Format::Xcoff32 => 32,
-        Format::Xcoff64 => word::read_field(file, base, word::eight(40)),
+        Format::Xcoff64 => word::read_field(file, base, Width::Eight.at(40)),
     }
 }
 
@@ -54,9 +55,9 @@ fn relocations_offset(file: &[u8], f: Format, base: usize) -> u64
 {
     match f {
         Format::Xcoff32 => {
-            32 + word::read_field(file, base, word::four(4)) * format::LOADER_SYMBOL_LENGTH
+            32 + word::read_field(file, base, Width::Four.at(4)) * format::LOADER_SYMBOL_LENGTH
         }
-        Format::Xcoff64 => word::read_field(file, base, word::eight(48)),
+        Format::Xcoff64 => word::read_field(file, base, Width::Eight.at(48)),
     }
 }
 
@@ -70,11 +71,11 @@ pub fn read_header(file: &[u8], f: Format, base: usize) -> LoaderHeader
     let stlen = l.stlen;
     let stoff = l.stoff;
     LoaderHeader {
-        version: word::read_field(file, base, word::four(0)),
-        nsyms: word::read_field(file, base, word::four(4)),
-        nreloc: word::read_field(file, base, word::four(8)),
-        istlen: word::read_field(file, base, word::four(12)),
-        nimpid: word::read_field(file, base, word::four(16)),
+        version: word::read_field(file, base, Width::Four.at(0)),
+        nsyms: word::read_field(file, base, Width::Four.at(4)),
+        nreloc: word::read_field(file, base, Width::Four.at(8)),
+        istlen: word::read_field(file, base, Width::Four.at(12)),
+        nimpid: word::read_field(file, base, Width::Four.at(16)),
         impoff: word::read_field(file, base, impoff),
         stlen: word::read_field(file, base, stlen),
         stoff: word::read_field(file, base, stoff),
@@ -102,19 +103,19 @@ fn is_version(v: u64) -> bool
 }
 
 // LOADER 1, LIMIT 2, LIMIT 3.
-fn check_numbers(h: LoaderHeader) -> Verdict
+fn check_numbers(h: LoaderHeader) -> Result<(), Refusal>
     ensures { result ≡ numbers_check h }
 {
     if !is_version(h.version) {
-        return Verdict::Refused(Refusal::Loader(LoaderItem::Version));
+        return Err(Refusal::Loader(LoaderItem::Version));
     }
     if format::LOADER_SYMBOL_LIMIT < h.nsyms {
-        return Verdict::Refused(Refusal::Limit(LimitItem::LoaderSymbols));
+        return Err(Refusal::Limit(LimitItem::LoaderSymbols));
     }
     if format::RELOCATION_LIMIT < h.nreloc {
-        return Verdict::Refused(Refusal::Limit(LimitItem::Relocations));
+        return Err(Refusal::Limit(LimitItem::Relocations));
     }
-    Verdict::Accepted
+    Ok(())
 }
 
 // How many zeros the import id table has.
@@ -131,43 +132,46 @@ fn count_id_zeros(file: &[u8], start: u64, size: u64, h: LoaderHeader) -> u64
 }
 
 // LOADER 2 to 5.
-fn check_places(file: &[u8], f: Format, start: u64, size: u64, h: LoaderHeader) -> Verdict
+fn check_places(
+    file: &[u8],
+    f: Format,
+    start: u64,
+    size: u64,
+    h: LoaderHeader,
+) -> Result<(), Refusal>
     requires { (start + size ≤ length file.now) × Bounded h }
     ensures { result ≡ places_check file.now f start size h }
 {
     let l = format::relocation_layout(f);
     if is_table_past(h.symoff, h.nsyms * format::LOADER_SYMBOL_LENGTH, size) {
-        return Verdict::Refused(Refusal::Loader(LoaderItem::SymbolsPast));
+        return Err(Refusal::Loader(LoaderItem::SymbolsPast));
     }
     if is_table_past(h.rldoff, h.nreloc * l.length, size) {
-        return Verdict::Refused(Refusal::Loader(LoaderItem::RelocationsPast));
+        return Err(Refusal::Loader(LoaderItem::RelocationsPast));
     }
     if is_table_past(h.impoff, h.istlen, size) {
-        return Verdict::Refused(Refusal::Loader(LoaderItem::ImportIdsPast));
+        return Err(Refusal::Loader(LoaderItem::ImportIdsPast));
     }
     if count_id_zeros(file, start, size, h) < 3 * h.nimpid {
-        return Verdict::Refused(Refusal::Loader(LoaderItem::ImportIdsPast));
+        return Err(Refusal::Loader(LoaderItem::ImportIdsPast));
     }
     if is_table_past(h.stoff, h.stlen, size) {
-        return Verdict::Refused(Refusal::Loader(LoaderItem::StringsPast));
+        return Err(Refusal::Loader(LoaderItem::StringsPast));
     }
-    Verdict::Accepted
+    Ok(())
 }
 
 // LOADER and LIMIT 2, 3 of the section of `size` bytes at `start`.
-pub fn check_header(file: &[u8], f: Format, start: u64, size: u64) -> Verdict
+pub fn check_header(file: &[u8], f: Format, start: u64, size: u64) -> Result<(), Refusal>
     requires { LoaderRoom (length file.now) start size }
     ensures { result ≡ header_check file.now f start size }
 {
     let l = format::loader_layout(f);
     if size < l.length {
-        return Verdict::Refused(Refusal::Loader(LoaderItem::ShortHeader));
+        return Err(Refusal::Loader(LoaderItem::ShortHeader));
     }
     let h = read_header(file, f, start as usize);
-    let v = check_numbers(h);
-    if refusal::refuses(v) {
-        return v;
-    }
+    check_numbers(h)?;
     check_places(file, f, start, size, h)
 }
 

@@ -6,59 +6,40 @@ ghost use Rattle.offset.specs.Report.{report_of_range};
 ghost use Rattle.refusal.specs.Part.{range_bytes};
 ghost use Rattle.lookup.specs.Symbol.{loader_symbol_at, loader_name_at, report_of_loader_symbol, loader_symbol_report};
 
-use loadable::LoadableAnswer;
-use lookup::{LoaderSymbolAnswer, LoaderSymbolReport};
-use refusal::{RangeAnswer, Verdict};
+use format::FileRange;
+use loader_symbol::LoaderEntry;
+use lookup::LoaderSymbolReport;
+use refusal::Refusal;
 
 // The loader symbol with index `i`, from 3.
-pub fn loader_symbol(file: &[u8], i: u64) -> LoaderSymbolAnswer
+pub fn loader_symbol(file: &[u8], i: u64) -> Result<LoaderEntry, Refusal>
     ensures cause { result ≡ loader_symbol_at file.now i }
     ensures report { report_of_loader_symbol file.now result ≡ loader_symbol_report file.now i }
 {
-    let a = loadable::module_of(file);
-    match a {
-        LoadableAnswer::Refused(x) => LoaderSymbolAnswer::Refused(x),
-        LoadableAnswer::Found(l) => {
-            let t = l.tables;
-            let v = lookup::check_index(t, i);
-            match v {
-                Verdict::Refused(x) => LoaderSymbolAnswer::Refused(x),
-                Verdict::Accepted => {
-                    let m = l.layout;
-                    let f = m.format;
-                    let base = lookup::entry_base(t, i);
-                    LoaderSymbolAnswer::Found(loader_symbol::read_entry(file, f, base))
-                }
-            }
-        }
-    }
+    let l = loadable::module_of(file)?;
+    let t = l.tables;
+    lookup::check_index(t, i)?;
+    let m = l.layout;
+    let f = m.format;
+    let base = lookup::entry_base(t, i);
+    Ok(loader_symbol::read_entry(file, f, base))
 }
 
 // Where the name of the loader symbol with index `i` lies.
-pub fn loader_symbol_name_range(file: &[u8], i: u64) -> RangeAnswer
+pub fn loader_symbol_name_range(file: &[u8], i: u64) -> Result<FileRange, Refusal>
     ensures cause { result ≡ loader_name_at file.now i }
     ensures report { report_of_range file.now result ≡ report_of_range file.now (loader_name_at file.now i) }
 {
-    let a = loadable::module_of(file);
-    match a {
-        LoadableAnswer::Refused(x) => RangeAnswer::Refused(x),
-        LoadableAnswer::Found(l) => {
-            let t = l.tables;
-            let v = lookup::check_index(t, i);
-            match v {
-                Verdict::Refused(x) => RangeAnswer::Refused(x),
-                Verdict::Accepted => {
-                    let m = l.layout;
-                    let f = m.format;
-                    let strings = t.strings;
-                    let base = lookup::entry_base(t, i);
-                    let e = loader_symbol::read_entry(file, f, base);
-                    let name = e.name;
-                    loader_symbol::name_range(file, strings, base, i, name)
-                }
-            }
-        }
-    }
+    let l = loadable::module_of(file)?;
+    let t = l.tables;
+    lookup::check_index(t, i)?;
+    let m = l.layout;
+    let f = m.format;
+    let strings = t.strings;
+    let base = lookup::entry_base(t, i);
+    let e = loader_symbol::read_entry(file, f, base);
+    let name = e.name;
+    loader_symbol::name_range(file, strings, base, i, name)
 }
 
 // The name of the loader symbol with index `i`: the very bytes of the file, none on a refusal.
@@ -69,11 +50,11 @@ pub fn loader_symbol_name<'a>(file: &'a [u8], i: u64) -> &'a [u8]
     refusal::part_of(file, a)
 }
 
-pub fn report_loader_symbol(file: &[u8], a: LoaderSymbolAnswer) -> LoaderSymbolReport
+pub fn report_loader_symbol(file: &[u8], a: Result<LoaderEntry, Refusal>) -> LoaderSymbolReport
     ensures { result ≡ report_of_loader_symbol file.now a }
 {
     match a {
-        LoaderSymbolAnswer::Refused(x) => LoaderSymbolReport {
+        Err(x) => LoaderSymbolReport {
             head: offset::refusal_head(file, x),
             value: 0,
             scnum: 0,
@@ -82,7 +63,7 @@ pub fn report_loader_symbol(file: &[u8], a: LoaderSymbolAnswer) -> LoaderSymbolR
             ifile: 0,
             parm: 0,
         },
-        LoaderSymbolAnswer::Found(e) => LoaderSymbolReport {
+        Ok(e) => LoaderSymbolReport {
             head: refusal::accepted_head(),
             value: e.value,
             scnum: e.scnum,

@@ -1,5 +1,5 @@
 -- Loader symbols: what an entry's 24 bytes hold, and LSYM.
-use Rattle.std.specs.Prelude.{ℕ, ◌+◌, ◌-◌, ◌*◌, ◌/◌, ◌%◌, ◌≤◌, Bool, true, false, not, cond, ◌&&◌, ◌||◌, List, eqb, ltb, length, take, drop}
+use Rattle.std.specs.Prelude.{ℕ, ◌+◌, ◌-◌, ◌*◌, ◌/◌, ◌%◌, ◌≤◌, Bool, true, false, not, cond, ◌&&◌, ◌||◌, List, eqb, ltb, length, take, drop, Err, Ok, Result}
 use Rattle.word.specs.Number.{field, field_at, field_in}
 use Rattle.word.specs.declared.Width.TheVariants.{One, Four}
 use Rattle.word.specs.Test.{past}
@@ -13,13 +13,12 @@ use Rattle.format.specs.Limit.{file_limit, loader_symbol_limit}
 use Rattle.format.specs.Name.{name_field}
 use Rattle.format.specs.Range.{range, text_in}
 use Rattle.refusal.specs.declared.Refusal.TheVariants.{Lsym}
-use Rattle.refusal.specs.declared.RangeAnswer.{RangeAnswer}
-use Rattle.refusal.specs.declared.RangeAnswer.TheVariants.{Found, Refused}
-use Rattle.refusal.specs.declared.Verdict.{Verdict}
 use Rattle.refusal.specs.Order.{refuse_if}
 use Rattle.parts.specs.declared.Parts.{Parts}
 use Rattle.loader_header.specs.declared.LoaderTables.{LoaderTables}
 use Rattle.loader_symbol.specs.declared.LoaderEntry.{LoaderEntry}
+use Rattle.refusal.specs.declared.Refusal.{Refusal}
+use Rattle.refusal.specs.Verdict.{Verdict}
 
 -- where the loader symbol with place i in the table starts
 abbrev pub entry_start : LoaderTables → ℕ → ℕ
@@ -47,22 +46,22 @@ entry_at f base file =
     }
 
 -- a string name: the 2 bytes before it are its length, which counts its one closing zero; all of it lies in the table
-unfoldable pub string_in : List ℕ → FileRange → ℕ → ℕ → RangeAnswer
+unfoldable pub string_in : List ℕ → FileRange → ℕ → ℕ → Result FileRange Refusal
 string_in file strings o i =
     let n = field_at 2 (strings.start.0 + o - 2) file in
-    cond (ltb o 2 || ltb strings.length o) (Refused (Lsym i))
-    (cond (eqb n 0 || past o n strings.length) (Refused (Lsym i))
-    (cond (eqb (first_zero (take n (drop (strings.start.0 + o) file))) (n - 1)) (Found (range (strings.start.0 + o) (n - 1)))
-    (Refused (Lsym i))))
+    cond (ltb o 2 || ltb strings.length o) (Err (Lsym i))
+    (cond (eqb n 0 || past o n strings.length) (Err (Lsym i))
+    (cond (eqb (first_zero (take n (drop (strings.start.0 + o) file))) (n - 1)) (Ok (range (strings.start.0 + o) (n - 1)))
+    (Err (Lsym i))))
 
 -- where the name of the loader symbol at base lies; i is its index, from 3
-unfoldable pub name_in : List ℕ → FileRange → ℕ → ℕ → NameField → RangeAnswer
-name_in file strings base i Short = Found (text_in short_name base file)
+unfoldable pub name_in : List ℕ → FileRange → ℕ → ℕ → NameField → Result FileRange Refusal
+name_in file strings base i Short = Ok (text_in short_name base file)
 name_in file strings base i (Offset o) = string_in file strings o i
 
-abbrev pub is_found : RangeAnswer → Bool
-is_found (Found r) = true
-is_found (Refused x) = false
+abbrev pub is_found : Result FileRange Refusal → Bool
+is_found (Ok r) = true
+is_found (Err x) = false
 
 -- 40 hex of the type: imported
 abbrev pub is_imported : ℕ → Bool

@@ -4,18 +4,18 @@
 ghost use Rattle.std.specs.Prelude.{◌≡◌, false, ◌||◌, eqb, ◌+◌, ◌*◌, ◌<◌};
 ghost use Rattle.loader_symbol.specs.Symbol.{is_found, is_placed, symbol_check, TablesInside};
 
-use format::Format;
+use format::{FileRange, Format};
 use loader_header::LoaderTables;
 use loader_symbol::LoaderEntry;
 use parts::Parts;
-use refusal::{RangeAnswer, Refusal, Verdict};
+use refusal::Refusal;
 
-fn is_found(a: RangeAnswer) -> bool
+fn is_found(a: Result<FileRange, Refusal>) -> bool
     ensures { result ≡ is_found a }
 {
     match a {
-        RangeAnswer::Found(_) => true,
-        RangeAnswer::Refused(_) => false,
+        Ok(_) => true,
+        Err(_) => false,
     }
 }
 
@@ -57,7 +57,13 @@ fn is_placed(p: Parts, nimpid: u64, e: LoaderEntry) -> bool
 }
 
 // LSYM of the loader symbol with place `k` in the table, index k + 3.
-pub fn check_symbol(file: &[u8], f: Format, p: Parts, t: LoaderTables, k: u64) -> Verdict
+pub fn check_symbol(
+    file: &[u8],
+    f: Format,
+    p: Parts,
+    t: LoaderTables,
+    k: u64,
+) -> Result<(), Refusal>
     requires { TablesInside file.now t × (k < t.nsyms) }
     ensures { result ≡ symbol_check file.now f p t k }
 {
@@ -65,16 +71,16 @@ pub fn check_symbol(file: &[u8], f: Format, p: Parts, t: LoaderTables, k: u64) -
     let base = (symbols.0 + k * format::LOADER_SYMBOL_LENGTH) as usize;
     let e = loader_symbol::read_entry(file, f, base);
     if 4 <= e.smtype % 8 {
-        return Verdict::Refused(Refusal::Lsym(k + 3));
+        return Err(Refusal::Lsym(k + 3));
     }
     if !is_placed(p, t.nimpid, e) {
-        return Verdict::Refused(Refusal::Lsym(k + 3));
+        return Err(Refusal::Lsym(k + 3));
     }
     let strings = t.strings;
     let name = e.name;
     let a = loader_symbol::name_range(file, strings, base, k + 3, name);
     if is_found(a) {
-        return Verdict::Accepted;
+        return Ok(());
     }
-    Verdict::Refused(Refusal::Lsym(k + 3))
+    Err(Refusal::Lsym(k + 3))
 }

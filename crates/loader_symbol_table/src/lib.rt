@@ -1,20 +1,19 @@
 // Loader symbols listed whole: the module is judged once, and each gets a row of numbers.
 #![tactic(auto)]
 
-ghost use Rattle.std.specs.Prelude.{◌≡◌, ◌*◌, ◌<◌, length};
+ghost use Rattle.std.specs.Prelude.{◌≡◌, ◌<◌, length};
 ghost use Rattle.loadable.specs.Loadable.{loadable_at};
-ghost use Rattle.rows.specs.Rows.{rows_of};
 ghost use Rattle.module_table.specs.Table.{check_by, table_check, rows_by, table_after};
 ghost use Rattle.loader_symbol_table.specs.Rows.{loader_symbol_row, loader_symbols};
 ghost use Rattle.refusal.specs.Order.{if_accepted};
 ghost use Rattle.offset.specs.Report.{report_head};
 
-use loadable::{Loadable, LoadableAnswer};
-use refusal::Verdict;
+use loadable::Loadable;
+use refusal::Refusal;
 
 // The row of the loader symbol with place `k` in the table, index k + 3.
 fn loader_symbol_row(file: &[u8], l: Loadable, k: u64) -> [u64; 9]
-    requires { (loadable_at file.now ≡ LoadableAnswer.Found l) × (k < l.tables.nsyms) }
+    requires { (loadable_at file.now ≡ Ok l) × (k < l.tables.nsyms) }
     ensures { result ≡ loader_symbol_row file.now l k }
 {
     let m = l.layout;
@@ -41,44 +40,28 @@ fn loader_symbol_row(file: &[u8], l: Loadable, k: u64) -> [u64; 9]
     ]
 }
 
-fn write_loader_symbols(file: &[u8], l: Loadable, out: &mut [u64])
-    requires { (loadable_at file.now ≡ LoadableAnswer.Found l) × (length out.old ≡ 9 * l.tables.nsyms) }
-    ensures { out.new ≡ rows_of (loader_symbol_row file.now l) 0 l.tables.nsyms }
-{
-    let t = l.tables;
-    let count = t.nsyms as usize;
-    let mut k: usize = 0;
-    while k < count {
-        let row = loader_symbol_row(file, l, k as u64);
-        rows::write_row(&row, k * 9, out);
-        k += 1;
-    }
-}
-
 // ROOM 0, or the rows of the module `l`.
-fn list_loader_symbols(file: &[u8], l: Loadable, out: &mut [u64]) -> Verdict
-    requires { loadable_at file.now ≡ LoadableAnswer.Found l }
-    ensures answer { result ≡ check_by loader_symbols (LoadableAnswer.Found l) (length out.old) }
-    ensures rows { out.new ≡ if_accepted result (rows_by loader_symbols file.now (LoadableAnswer.Found l)) out.old }
+fn list_loader_symbols(file: &[u8], l: Loadable, out: &mut [u64]) -> Result<(), Refusal>
+    requires { loadable_at file.now ≡ Ok l }
+    ensures answer { result ≡ check_by loader_symbols (Ok l) (length out.old) }
+    ensures rows { out.new ≡ if_accepted result (rows_by loader_symbols file.now (Ok l)) out.old }
 {
     let t = l.tables;
-    let v = rows::check_room(out.len() as u64, 9 * t.nsyms);
-    if refusal::refuses(v) {
-        return v;
-    }
-    write_loader_symbols(file, l, out);
-    Verdict::Accepted
+    rows::check_room(out.len() as u64, 9 * t.nsyms)?;
+    let row = |k|
+        requires { (loadable_at file.now ≡ Ok l) × (k < l.tables.nsyms) }
+        ensures { result ≡ loader_symbol_row file.entry.now l k }
+    { loader_symbol_row(file, l, k) };
+    rows::write_rows(9, t.nsyms, row, out);
+    Ok(())
 }
 
 // A row of 9 numbers for each loader symbol.
-pub fn loader_symbol_table(file: &[u8], out: &mut [u64]) -> Verdict
+pub fn loader_symbol_table(file: &[u8], out: &mut [u64]) -> Result<(), Refusal>
     ensures cause { result ≡ table_check loader_symbols file.now (length out.old) }
     ensures report { report_head file.now result ≡ report_head file.now (table_check loader_symbols file.now (length out.old)) }
     ensures rows { out.new ≡ table_after loader_symbols file.now out.old }
 {
-    let a = loadable::module_of(file);
-    match a {
-        LoadableAnswer::Refused(x) => Verdict::Refused(x),
-        LoadableAnswer::Found(l) => list_loader_symbols(file, l, out),
-    }
+    let l = loadable::module_of(file)?;
+    list_loader_symbols(file, l, out)
 }

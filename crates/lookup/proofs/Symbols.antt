@@ -16,26 +16,24 @@ use Rattle.format.specs.declared.NameField.{NameField}
 use Rattle.format.specs.declared.NameField.TheVariants.{Short, Offset}
 use Rattle.format.specs.Layout.{short_name, loader_symbol_length}
 use Rattle.format.proofs.Ranges.{text-inside}
-use Rattle.refusal.specs.declared.RangeAnswer.TheVariants as range
-use Rattle.refusal.specs.declared.Verdict.{Verdict}
-use Rattle.refusal.specs.declared.Verdict.TheVariants as verdict
 use Rattle.refusal.specs.Part.{Within}
 use Rattle.offset.proofs.Report.{range_inside}
 use Rattle.refusal.proofs.Order.{accepted-test}
 use Rattle.loader_header.specs.declared.LoaderTables.{LoaderTables}
 use Rattle.loader_symbol.specs.Symbol.{entry_start, string_in, name_in, TablesInside}
 use Rattle.loadable.specs.declared.Loadable.{Loadable}
-use Rattle.loadable.specs.declared.LoadableAnswer.{LoadableAnswer}
-use Rattle.loadable.specs.declared.LoadableAnswer.TheVariants as loadable
 use Rattle.loadable.specs.Loadable.{loadable_at}
 use Rattle.loadable.specs.Valid.{Valid}
 use Rattle.loadable.proofs.Accepted.{loadable-valid}
 use Rattle.lookup.specs.Symbol.{index_check, entry_of, name_of, symbol_name_in, loader_name_at}
 use Rattle.refusal.specs.Order.{by_verdict}
 use Rattle.offset.specs.Report.{report_of_range, InFile}
+use Rattle.std.specs.Prelude.{Err, Ok, Result}
+use Rattle.refusal.specs.declared.Refusal.{Refusal}
+use Rattle.refusal.specs.Verdict.{Verdict}
 
 -- an index that is accepted is in the table
-pub index-known : (t : LoaderTables) (i : ℕ) → index_check t i ≡ verdict.Accepted → (3 ≤ i) × (i < 3 + t.nsyms)
+pub index-known : (t : LoaderTables) (i : ℕ) → index_check t i ≡ Ok tt → (3 ≤ i) × (i < 3 + t.nsyms)
 unfolding index_check
 index-known t i e =
     let low = ltb i 3 in
@@ -46,7 +44,7 @@ index-known t i e =
     )
 
 -- its 24 bytes are in the file
-pub entry-in-file : (file : List ℕ) (t : LoaderTables) (i : ℕ) → TablesInside file t → index_check t i ≡ verdict.Accepted → entry_start t (i - 3) + loader_symbol_length ≤ length file
+pub entry-in-file : (file : List ℕ) (t : LoaderTables) (i : ℕ) → TablesInside file t → index_check t i ≡ Ok tt → entry_start t (i - 3) + loader_symbol_length ≤ length file
 entry-in-file file t i h e =
     let k = index-known t i e in
     let table = h.symbols in
@@ -69,17 +67,17 @@ unfolding name_in
 name-in-file file strings base i Short h k = text-inside short_name base file (omega arith)
 name-in-file file strings base i (Offset o) h k = string-within file strings o i h
 
-by_index : (file : List ℕ) (l : Loadable) (i : ℕ) (v : Verdict) → index_check l.tables i ≡ v → Valid file l → Within (length file) (by_verdict v (name_of file l i) range.Refused)
+by_index : (file : List ℕ) (l : Loadable) (i : ℕ) (v : Verdict) → index_check l.tables i ≡ v → Valid file l → Within (length file) (by_verdict v (name_of file l i) Err)
 unfolding name_of
-by_index file l i (verdict.Refused x) e h = tt
-by_index file l i verdict.Accepted e h =
+by_index file l i (Err x) e h = tt
+by_index file l i (Ok tt) e h =
     let t = h.loader.tables in
     name-in-file file l.tables.strings (entry_start l.tables (i - 3)) i (entry_of file l i).name t.strings (entry-in-file file l.tables i t e)
 
-by_answer : (file : List ℕ) (i : ℕ) (a : LoadableAnswer) → loadable_at file ≡ a → Within (length file) (symbol_name_in file a i)
+by_answer : (file : List ℕ) (i : ℕ) (a : Result Loadable Refusal) → loadable_at file ≡ a → Within (length file) (symbol_name_in file a i)
 unfolding symbol_name_in
-by_answer file i (loadable.Refused x) e = tt
-by_answer file i (loadable.Found l) e = by_index file l i (index_check l.tables i) refl (loadable-valid file l e)
+by_answer file i (Err x) e = tt
+by_answer file i (Ok l) e = by_index file l i (index_check l.tables i) refl (loadable-valid file l e)
 
 -- the name of a loader symbol lies in the file
 pub loader-name-within : (file : List ℕ) (i : ℕ) → Within (length file) (loader_name_at file i)

@@ -9,13 +9,7 @@ ghost use Rattle.lookup.specs.Symbol.{index_check};
 
 use loader_header::LoaderTables;
 use loader_symbol::LoaderEntry;
-use refusal::{Head, IndexItem, Refusal, Verdict};
-
-#[derive(Clone, Copy)]
-pub enum LoaderSymbolAnswer {
-    Found(LoaderEntry),
-    Refused(Refusal),
-}
+use refusal::{Head, IndexItem, Refusal};
 
 #[repr(C)]
 #[derive(Clone, Copy)]
@@ -30,22 +24,22 @@ pub struct LoaderSymbolReport {
 }
 
 // INDEX where the table has no loader symbol `i`.
-pub fn check_index(t: LoaderTables, i: u64) -> Verdict
+pub fn check_index(t: LoaderTables, i: u64) -> Result<(), Refusal>
     requires { t.nsyms ≤ 4294967296 }
     ensures { result ≡ index_check t i }
 {
     if i < 3 {
-        return Verdict::Refused(Refusal::Index(IndexItem::NoLoaderSymbol(i)));
+        return Err(Refusal::Index(IndexItem::NoLoaderSymbol(i)));
     }
     if i < 3 + t.nsyms {
-        return Verdict::Accepted;
+        return Ok(());
     }
-    Verdict::Refused(Refusal::Index(IndexItem::NoLoaderSymbol(i)))
+    Err(Refusal::Index(IndexItem::NoLoaderSymbol(i)))
 }
 
 // Where loader symbol `i` of the table starts.
 pub fn entry_base(t: LoaderTables, i: u64) -> usize
-    requires { (t.symbols.0 + t.nsyms * loader_symbol_length ≤ file_limit) × (index_check t i ≡ Verdict.Accepted) }
+    requires { (t.symbols.0 + t.nsyms * loader_symbol_length ≤ file_limit) × (index_check t i ≡ Ok tt) }
     ensures { result ≡ entry_start t (i - 3) }
 {
     let symbols = t.symbols;

@@ -11,8 +11,6 @@ use Rattle.format.specs.declared.SymbolLayout.{SymbolLayout}
 use Rattle.format.specs.Layout.{symbol_layout}
 use Rattle.refusal.specs.declared.Refusal.{Refusal}
 use Rattle.refusal.specs.declared.Refusal.TheVariants.{Aux, Scnum, Name, Visibility}
-use Rattle.refusal.specs.declared.Verdict.{Verdict}
-use Rattle.refusal.specs.declared.Verdict.TheVariants.{Accepted, Refused}
 use Rattle.refusal.specs.Order.{refuse_if, by_verdict}
 use Rattle.refusal.specs.Refusal.{number_of, is_refused, one_if}
 use Rattle.visibility.specs.Visibility.{is_unknown}
@@ -26,6 +24,8 @@ use Rattle.mend.specs.Mend.{Mend, Change, whole, aux_left, without_visibility, m
 use Rattle.mend.specs.Report.{row_bytes, report_bytes}
 use Rattle.mend.specs.Entry.{refusals_of, put_if, mend_by, row_if, rows_by, refused_in}
 use Rattle.mend.proofs.Rows.{length-row}
+use Rattle.std.specs.Prelude.{Err, Ok}
+use Rattle.refusal.specs.Verdict.{Verdict}
 
 -- ---- lists of changes
 
@@ -59,16 +59,16 @@ module _ (t : Tables) (i : SymbolIndex) (m : Mend) (ms : List Mend) where
   check-put bs = by-case m.verdict
     where
       by-case : (v : Verdict) → put_all t (by_verdict v (changes_by i ms) (λ x. change_of i m x ∷ changes_by i ms)) bs ≡ put_all t (changes_by i ms) (put_if (is_refused v) (entry_start t i.0) m.place m.value bs)
-      by-case (Refused x) = unfold put_all put put_if in refl
-      by-case Accepted = unfold put_if in refl
+      by-case (Err x) = unfold put_all put put_if in refl
+      by-case (Ok tt) = unfold put_if in refl
 
   check-counted : length (changes_by i (m ∷ ms)) ≡ one_if (is_refused m.verdict) + length (changes_by i ms)
   unfolding changes_by
   check-counted = by-case m.verdict
     where
       by-case : (v : Verdict) → length (by_verdict v (changes_by i ms) (λ x. change_of i m x ∷ changes_by i ms)) ≡ one_if (is_refused v) + length (changes_by i ms)
-      by-case (Refused x) = omega arith
-      by-case Accepted = omega arith
+      by-case (Err x) = omega arith
+      by-case (Ok tt) = omega arith
 
   check-reported : (b : Bool) (x : Refusal) → m.verdict ≡ refuse_if b x → report_bytes (changes_by i (m ∷ ms)) ≡ row_if (is_refused m.verdict) i x ++ report_bytes (changes_by i ms)
   unfolding changes_by

@@ -12,14 +12,14 @@ use Rattle.word.proofs.Test.{and_first, and_second}
 use Rattle.update.proofs.Laws.{field_put, length-put}
 use Rattle.format.specs.declared.SymbolIndex.{SymbolIndex}
 use Rattle.refusal.specs.declared.Refusal.{Refusal}
-use Rattle.refusal.specs.declared.Verdict.{Verdict}
-use Rattle.refusal.specs.declared.Verdict.TheVariants.{Accepted, Refused}
 use Rattle.refusal.specs.Order.{by_verdict}
 use Rattle.refusal.specs.Refusal.{is_refused}
 use Rattle.symbol.specs.declared.Tables.{Tables}
 use Rattle.symbol.specs.Entry.{entry_start}
 use Rattle.frame.proofs.Fields.{fields_apart, put_other}
 use Rattle.mend.specs.Mend.{Mend, change_of, changes_by, put, put_all}
+use Rattle.std.specs.Prelude.{Err, Ok}
+use Rattle.refusal.specs.Verdict.{Verdict}
 
 abbrev same_field : Field → Field → Bool
 same_field a b = eqb a.offset b.offset && eqb (bytes_in a.width) (bytes_in b.width)
@@ -68,7 +68,7 @@ module _ (t : Tables) (i : SymbolIndex) where
       by-verdict : ((bs' : List ℕ) → base + b.offset + bytes_in b.width ≤ length bs' → field_in b base (put_all t (changes_by i ms) bs') ≡ after ms b (field_in b base bs'))
           → (v : Verdict) → field_in b base (put_all t (by_verdict v (changes_by i ms) (λ x. change_of i m x ∷ changes_by i ms)) bs)
           ≡ after ms b (cond (same_field m.place b) (cond (is_refused v) (m.value % 256 ^ bytes_in b.width) (field_in b base bs)) (field_in b base bs))
-      by-verdict later (Refused x) =
+      by-verdict later (Err x) =
           later (put t (change_of i m x) bs) (rw (kept x) n)
           ∙ ap (after ms b) (field-set m x b bs (same_field m.place b) refl (and_first (same_field m.place b || fields_apart m.place b) _ p) n)
-      by-verdict later Accepted = later bs n ∙ ap (after ms b) (set-none (same_field m.place b) (m.value % 256 ^ bytes_in b.width) (field_in b base bs))
+      by-verdict later (Ok tt) = later bs n ∙ ap (after ms b) (set-none (same_field m.place b) (m.value % 256 ^ bytes_in b.width) (field_in b base bs))

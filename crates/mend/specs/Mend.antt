@@ -6,7 +6,6 @@ use Rattle.format.specs.declared.SymbolIndex.{SymbolIndex}
 use Rattle.format.specs.declared.SymbolLayout.{SymbolLayout}
 use Rattle.format.specs.Layout.{symbol_layout}
 use Rattle.refusal.specs.declared.Refusal.{Refusal}
-use Rattle.refusal.specs.declared.Verdict.{Verdict}
 use Rattle.refusal.specs.Order.{by_verdict}
 use Rattle.update.specs.Update.{put_field}
 use Rattle.visibility.specs.Visibility.{visibility_bits}
@@ -14,6 +13,7 @@ use Rattle.symbol.specs.declared.Tables.{Tables}
 use Rattle.symbol.specs.declared.SymbolEntry.{SymbolEntry}
 use Rattle.symbol.specs.Entry.{entry_start, entry_of}
 use Rattle.symbol.specs.Symbol.{aux_check, scnum_check, name_check, visibility_check}
+use Rattle.refusal.specs.Verdict.{Verdict}
 
 -- a check's verdict, and where it refuses: the field that is set, which of its bits, from `low` up to and without `high`, and the number that the field then holds
 pub record Mend : Type 0 where

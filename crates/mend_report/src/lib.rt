@@ -8,6 +8,7 @@ ghost use Rattle.mend.specs.Entry.{mended_aux, row_if, rows_by, refused_in};
 use format::SymbolIndex;
 use mend::EntryRefusals;
 use refusal::Refusal;
+use word::Width;
 
 // The auxiliaries of an entry as mended: `left` is how many the table has room for.
 pub fn mended_aux(r: EntryRefusals, left: u64, numaux: u64) -> u64
@@ -26,8 +27,8 @@ fn report_if(report: &mut [u8], on: bool, at: usize, i: SymbolIndex, x: Refusal)
     ensures next { result ≡ at + length (row_if on i x) }
 {
     if on {
-        file_copy::put_number(report, at, word::four(0), i.0);
-        file_copy::put_number(report, at, word::four(4), refusal::number(x));
+        file_copy::put_number(report, at, Width::Four.at(0), i.0);
+        file_copy::put_number(report, at, Width::Four.at(4), refusal::number(x));
         return at + 8;
     }
     at

@@ -12,7 +12,6 @@ use Rattle.word.proofs.Test.{and_first, and_second, or-first, or-second}
 use Rattle.format.specs.Layout.{aux_layout}
 use Rattle.refusal.specs.declared.Refusal.TheVariants as refusal
 use Rattle.refusal.specs.declared.ModuleItem.TheVariants.{SectionSet}
-use Rattle.refusal.specs.declared.Verdict.TheVariants as verdict
 use Rattle.refusal.specs.Order.{refuse_if}
 use Rattle.refusal.proofs.Order.{accepted-first, accepted-rest, accepted-test, by-verdict}
 use Rattle.header.specs.declared.Summary.{Summary}
@@ -23,18 +22,18 @@ use Rattle.header.proofs.Accepted.{opened_inside}
 use Rattle.auxiliary.specs.declared.AuxHeader.{AuxHeader}
 use Rattle.parts.specs.declared.Parts.{Parts}
 use Rattle.module.specs.declared.Module.{Module}
-use Rattle.module.specs.declared.ModuleAnswer.{ModuleAnswer}
-use Rattle.module.specs.declared.ModuleAnswer.TheVariants.{Found, Refused}
 use Rattle.parts.specs.Sections.{tallies_of, one_each, part_at, parts_of, thread_check}
 use Rattle.auxiliary.specs.Auxiliary.{numbers_agree, sizes_agree}
 use Rattle.module.specs.Module.{lacks_data, is_anchor, bss_below, image_length, parts_check, aux_of, module_check, module_with, module_in, module_at}
 use Rattle.module.specs.Inside.{PartInside, ModuleInside}
 use Rattle.parts.proofs.Tallied.{each-known}
 use Rattle.module.proofs.Extent.{bss-after, image-plain, image-bss, parts-image}
+use Rattle.std.specs.Prelude.{Err, Ok, Result}
+use Rattle.refusal.specs.declared.Refusal.{Refusal}
 
 -- MODULE 1 is given whatever THREAD would say
 pub set-before-thread : (file : List ℕ) (y : Summary) → (aux_layout y.format).length ≤ y.opthdr → one_each (tallies_of y) ≡ false
-    → module_check file y ≡ verdict.Refused (refusal.Module SectionSet)
+    → module_check file y ≡ Err (refusal.Module SectionSet)
 unfolding module_check
 set-before-thread file y a e = rw (le-ltb y.opthdr (aux_layout y.format).length a, e) refl
 
@@ -52,13 +51,13 @@ image_holds p e (yes z) = rw (image-plain p z) (omega arith)
 image_holds p e (no n) = rw (image-bss p n) (let h = bss-after p e n in omega arith)
 
 -- the tests of the parts that were passed
-parts-data : (p : Parts) (a : AuxHeader) → parts_check p a ≡ verdict.Accepted → (lacks_data p.text || lacks_data p.«data» || lacks_data p.loader) ≡ false
+parts-data : (p : Parts) (a : AuxHeader) → parts_check p a ≡ Ok tt → (lacks_data p.text || lacks_data p.«data» || lacks_data p.loader) ≡ false
 unfolding parts_check
 parts-data p a e =
     let lacks = lacks_data p.text || lacks_data p.«data» || lacks_data p.loader in
     accepted-test lacks _ (accepted-first (refuse_if lacks _) _ (accepted-rest (refuse_if (not (numbers_agree p a && sizes_agree p a)) _) _ e))
 
-parts-anchors : (p : Parts) (a : AuxHeader) → parts_check p a ≡ verdict.Accepted → (is_anchor p a.snentry && is_anchor p a.sntoc) ≡ true
+parts-anchors : (p : Parts) (a : AuxHeader) → parts_check p a ≡ Ok tt → (is_anchor p a.snentry && is_anchor p a.sntoc) ≡ true
 unfolding parts_check
 parts-anchors p a e =
     let lacks = lacks_data p.text || lacks_data p.«data» || lacks_data p.loader in
@@ -67,7 +66,7 @@ parts-anchors p a e =
     not-false good (accepted-test (not good) _ (accepted-first (refuse_if (not good) _) _ r))
 
 -- the checks that are passed give it
-checked-inside : (file : List ℕ) (y : Summary) → Inside file y → one_each (tallies_of y) ≡ true → parts_check (parts_of y) (aux_of file y) ≡ verdict.Accepted → ModuleInside file (module_with y.format (parts_of y) (aux_of file y))
+checked-inside : (file : List ℕ) (y : Summary) → Inside file y → one_each (tallies_of y) ≡ true → parts_check (parts_of y) (aux_of file y) ≡ Ok tt → ModuleInside file (module_with y.format (parts_of y) (aux_of file y))
 unfolding parts_of part_at tallies_of module_with
 checked-inside file y i one e =
     let p = parts_of y in
@@ -91,9 +90,9 @@ checked-inside file y i one e =
     }
 
 -- of an answer: it holds where a module is found
-abbrev Answered : List ℕ → ModuleAnswer → Type 0
-Answered file (Found m) = ModuleInside file m
-Answered file (Refused x) = Unit {0}
+abbrev Answered : List ℕ → Result Module Refusal → Type 0
+Answered file (Ok m) = ModuleInside file m
+Answered file (Err x) = Unit {0}
 
 module-answered : (file : List ℕ) (y : Summary) → Inside file y → Answered file (module_in file y)
 unfolding module_in module_check
@@ -107,6 +106,6 @@ module-answered file y i =
     (λ x. tt)
 
 -- an accepted module's sections are inside the file
-pub module-inside : (file : List ℕ) (m : Module) → module_at file ≡ Found m → ModuleInside file m
+pub module-inside : (file : List ℕ) (m : Module) → module_at file ≡ Ok m → ModuleInside file m
 unfolding module_at
 module-inside file m e = subst (Answered file) e (by-verdict (Answered file) (open_of file).verdict (λ k. module-answered file (open_of file).summary (opened_inside file k)) (λ x. tt))

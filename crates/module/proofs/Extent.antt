@@ -9,7 +9,6 @@ use lib.ListN.{length}
 use borrow.Author.Tests.{eq-eqb, ne_eqb, ltb-false}
 use Rattle.format.specs.Layout.{header_layout, aux_layout}
 use Rattle.format.specs.Limit.{data_image_limit}
-use Rattle.refusal.specs.declared.Verdict.TheVariants.{Accepted}
 use Rattle.refusal.specs.Order.{refuse_if}
 use Rattle.refusal.proofs.Order.{accepted-first, accepted-rest, accepted-test}
 use Rattle.header.specs.declared.Summary.{Summary}
@@ -19,6 +18,7 @@ use Rattle.auxiliary.specs.declared.AuxHeader.{AuxHeader}
 use Rattle.parts.specs.declared.Parts.{Parts}
 use Rattle.module.specs.Module.{lacks_data, is_anchor, bss_below, image_length, parts_check}
 use Rattle.auxiliary.specs.Auxiliary.{numbers_agree, sizes_agree}
+use Rattle.std.specs.Prelude.{Ok}
 
 -- a bss that is not empty starts at or after data's end
 pub bss-after : (p : Parts) → bss_below p ≡ false → (p.bss.size ≡ 0 → ⊥) → p.«data».address.0 + p.«data».size ≤ p.bss.address.0
@@ -34,7 +34,7 @@ unfolding image_length
 image-bss p n = rw (ne_eqb p.bss.size 0 n)
 
 -- what the checks of the parts leave known
-pub parts-image : (p : Parts) (a : AuxHeader) → parts_check p a ≡ Accepted → (bss_below p ≡ false) × (image_length p ≤ data_image_limit)
+pub parts-image : (p : Parts) (a : AuxHeader) → parts_check p a ≡ Ok tt → (bss_below p ≡ false) × (image_length p ≤ data_image_limit)
 unfolding parts_check
 parts-image p a e =
     let r1 = accepted-rest (refuse_if (not (numbers_agree p a && sizes_agree p a)) _) _ e in

@@ -18,8 +18,6 @@ use Rattle.refusal.specs.declared.ModuleItem.TheVariants.{ShortAuxHeader, Sectio
 use Rattle.refusal.specs.declared.Refusal.{Refusal}
 use Rattle.refusal.specs.declared.Refusal.TheVariants as refusal
 use Rattle.refusal.specs.declared.ThreadItem.TheVariants.{ThreadSection}
-use Rattle.refusal.specs.declared.Verdict.{Verdict}
-use Rattle.refusal.specs.declared.Verdict.TheVariants as verdict
 use Rattle.refusal.specs.Order.{refuse_if, by_verdict}
 use Rattle.refusal.proofs.Order.{accepted-first, accepted-rest, accepted-test}
 use Rattle.refusal.proofs.Causes.{Causes, cause-if, cause-test, cause-then, cause-first}
@@ -34,9 +32,9 @@ use Rattle.parts.proofs.Loader.{loader-there}
 use Rattle.parts.proofs.Tallied.{Known, each-known}
 use Rattle.auxiliary.specs.Auxiliary.{numbers_agree, sizes_agree}
 use Rattle.module.specs.declared.Module.{Module}
-use Rattle.module.specs.declared.ModuleAnswer.{ModuleAnswer}
-use Rattle.module.specs.declared.ModuleAnswer.TheVariants.{Found, Refused}
 use Rattle.module.specs.Module.{lacks_data, is_anchor, bss_below, image_length, parts_check, aux_of, module_check, module_with, module_in, module_at}
+use Rattle.std.specs.Prelude.{Err, Ok, Result}
+use Rattle.refusal.specs.Verdict.{Verdict}
 
 -- where offsets find the loader section of a module that is found
 pub record LoaderPlace (file : List ℕ) (m : Module) : Type 0 where
@@ -46,9 +44,9 @@ pub record LoaderPlace (file : List ℕ) (m : Module) : Type 0 where
   pub inside : loader_start file (header_at opened.format file) ≤ length file
 
 -- what holds of a module's answer, and of its refusal
-abbrev pub ModuleCauses : List ℕ → ModuleAnswer → Type 0
-ModuleCauses file (Found m) = LoaderPlace file m
-ModuleCauses file (Refused x) = Named file x
+abbrev pub ModuleCauses : List ℕ → Result Module Refusal → Type 0
+ModuleCauses file (Ok m) = LoaderPlace file m
+ModuleCauses file (Err x) = Named file x
 
 module _ (file : List ℕ) (o : Opens file) where
   abbrev P : Refusal → Type 0
@@ -105,17 +103,17 @@ module _ (file : List ℕ) (o : Opens file) where
   unfolding module_in module_check
   in-named = by (module_check file y) refl check-named
     where
-      by : (v : Verdict) → module_check file y ≡ v → Causes P v → ModuleCauses file (by_verdict v (Found (module_with y.format (parts_of y) (aux_of file y))) Refused)
-      by verdict.Accepted e c =
+      by : (v : Verdict) → module_check file y ≡ v → Causes P v → ModuleCauses file (by_verdict v (Ok (module_with y.format (parts_of y) (aux_of file y))) Err)
+      by (Ok tt) e c =
           let r = accepted-rest (refuse_if (ltb y.opthdr (aux_layout y.format).length) (refusal.Module ShortAuxHeader)) _ e in
           loader-placed (accepted-test (not (one_each (tallies_of y))) (refusal.Module SectionSet) (accepted-first (refuse_if (not (one_each (tallies_of y))) (refusal.Module SectionSet)) _ r))
-      by (verdict.Refused x) e c = c
+      by (Err x) e c = c
 
 -- request 4: of a module's sections
 pub module-named : (file : List ℕ) → ModuleCauses file (module_at file)
 unfolding module_at
 module-named file = by (open_of file).verdict refl (opened-named file)
   where
-    by : (v : Verdict) → (open_of file).verdict ≡ v → Causes (Named file) v → ModuleCauses file (by_verdict v (module_in file (open_of file).summary) Refused)
-    by verdict.Accepted e c = in-named file (opens file e)
-    by (verdict.Refused x) e c = c
+    by : (v : Verdict) → (open_of file).verdict ≡ v → Causes (Named file) v → ModuleCauses file (by_verdict v (module_in file (open_of file).summary) Err)
+    by (Ok tt) e c = in-named file (opens file e)
+    by (Err x) e c = c

@@ -1,5 +1,5 @@
 -- Which files are modules: MODULE 0, 1, THREAD, MODULE 2 to 4, ADDRESS of bss, LIMIT 4.
-use Rattle.std.specs.Prelude.{ℕ, ◌+◌, ◌-◌, Bool, not, cond, ◌&&◌, ◌||◌, List, eqb, ltb}
+use Rattle.std.specs.Prelude.{ℕ, ◌+◌, ◌-◌, Bool, not, cond, ◌&&◌, ◌||◌, List, eqb, ltb, Err, Ok, Result}
 use Rattle.format.specs.declared.Format.{Format}
 use Rattle.format.specs.declared.SectionNumber.{SectionNumber}
 use Rattle.format.specs.Layout.{header_layout, aux_layout}
@@ -8,7 +8,6 @@ use Rattle.refusal.specs.declared.Refusal.TheVariants as refusal
 use Rattle.refusal.specs.declared.ModuleItem.TheVariants.{ShortAuxHeader, SectionSet, AuxHeaderDiffers, NoRawData, EntryOrToc}
 use Rattle.refusal.specs.declared.AddressItem.TheVariants.{BssBelowData}
 use Rattle.refusal.specs.declared.LimitItem.TheVariants.{DataImage}
-use Rattle.refusal.specs.declared.Verdict.{Verdict}
 use Rattle.refusal.specs.Order.{◌or_else◌, refuse_if, by_verdict}
 use Rattle.header.specs.declared.Summary.{Summary}
 use Rattle.header.specs.Open.{open_of}
@@ -16,10 +15,10 @@ use Rattle.auxiliary.specs.declared.AuxHeader.{AuxHeader}
 use Rattle.parts.specs.declared.Part.{Part}
 use Rattle.parts.specs.declared.Parts.{Parts}
 use Rattle.module.specs.declared.Module.{Module}
-use Rattle.module.specs.declared.ModuleAnswer.{ModuleAnswer}
-use Rattle.module.specs.declared.ModuleAnswer.TheVariants.{Found, Refused}
 use Rattle.parts.specs.Sections.{tallies_of, one_each, parts_of, thread_check}
 use Rattle.auxiliary.specs.Auxiliary.{aux_at, numbers_agree, sizes_agree}
+use Rattle.refusal.specs.declared.Refusal.{Refusal}
+use Rattle.refusal.specs.Verdict.{Verdict}
 
 -- MODULE 3: a size but no raw data
 unfoldable pub lacks_data : Part → Bool
@@ -68,9 +67,9 @@ module_with f p a =
       toc = record { section = a.sntoc; address = a.toc };
     }
 
-unfoldable pub module_in : List ℕ → Summary → ModuleAnswer
-module_in file y = by_verdict (module_check file y) (Found (module_with y.format (parts_of y) (aux_of file y))) Refused
+unfoldable pub module_in : List ℕ → Summary → Result Module Refusal
+module_in file y = by_verdict (module_check file y) (Ok (module_with y.format (parts_of y) (aux_of file y))) Err
 
 -- opening's refusals come first
-unfoldable pub module_at : List ℕ → ModuleAnswer
-module_at file = by_verdict (open_of file).verdict (module_in file (open_of file).summary) Refused
+unfoldable pub module_at : List ℕ → Result Module Refusal
+module_at file = by_verdict (open_of file).verdict (module_in file (open_of file).summary) Err

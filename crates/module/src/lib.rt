@@ -26,12 +26,6 @@ pub struct Module {
     pub toc: Anchor,
 }
 
-#[derive(Clone, Copy)]
-pub enum ModuleAnswer {
-    Found(Module),
-    Refused(Refusal),
-}
-
 fn lacks_data(p: Part) -> bool
     ensures { result ≡ lacks_data p }
 {

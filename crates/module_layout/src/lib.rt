@@ -11,12 +11,12 @@ ghost use Rattle.module.specs.Module.{parts_check, aux_of, module_with, module_i
 use auxiliary::AuxHeader;
 use format::Format;
 use header::Summary;
-use module::{Anchor, Module, ModuleAnswer};
+use module::{Anchor, Module};
 use parts::{Parts, Tallies};
-use refusal::{AddressItem, LimitItem, ModuleItem, Refusal, Verdict};
+use refusal::{AddressItem, LimitItem, ModuleItem, Refusal};
 
 // MODULE 2 to 4, ADDRESS of bss, LIMIT 4.
-fn check_parts(p: Parts, a: AuxHeader) -> Verdict
+fn check_parts(p: Parts, a: AuxHeader) -> Result<(), Refusal>
     ensures { result ≡ parts_check p a }
 {
     let bss = p.bss;
@@ -24,31 +24,31 @@ fn check_parts(p: Parts, a: AuxHeader) -> Verdict
     let snentry = a.snentry;
     let sntoc = a.sntoc;
     if !auxiliary::do_numbers_agree(p, a) {
-        return Verdict::Refused(Refusal::Module(ModuleItem::AuxHeaderDiffers));
+        return Err(Refusal::Module(ModuleItem::AuxHeaderDiffers));
     }
     if !auxiliary::do_sizes_agree(p, a) {
-        return Verdict::Refused(Refusal::Module(ModuleItem::AuxHeaderDiffers));
+        return Err(Refusal::Module(ModuleItem::AuxHeaderDiffers));
     }
     if module::any_lacks_data(p) {
-        return Verdict::Refused(Refusal::Module(ModuleItem::NoRawData));
+        return Err(Refusal::Module(ModuleItem::NoRawData));
     }
     if !module::is_anchor(p, snentry) {
-        return Verdict::Refused(Refusal::Module(ModuleItem::EntryOrToc));
+        return Err(Refusal::Module(ModuleItem::EntryOrToc));
     }
     if !module::is_anchor(p, sntoc) {
-        return Verdict::Refused(Refusal::Module(ModuleItem::EntryOrToc));
+        return Err(Refusal::Module(ModuleItem::EntryOrToc));
     }
     if module::is_bss_below(p) {
-        return Verdict::Refused(Refusal::Address(AddressItem::BssBelowData(n)));
+        return Err(Refusal::Address(AddressItem::BssBelowData(n)));
     }
     if module::is_image_past(p) {
-        return Verdict::Refused(Refusal::Limit(LimitItem::DataImage));
+        return Err(Refusal::Limit(LimitItem::DataImage));
     }
-    Verdict::Accepted
+    Ok(())
 }
 
 fn module_with(f: Format, p: Parts, a: AuxHeader) -> Module
-    requires { parts_check p a ≡ Verdict.Accepted }
+    requires { parts_check p a ≡ Ok tt }
     ensures { result ≡ module_with f p a }
 {
     let snentry = a.snentry;
@@ -71,54 +71,43 @@ fn module_with(f: Format, p: Parts, a: AuxHeader) -> Module
 }
 
 // The module of an opened file whose section set is right.
-fn join_parts(file: &[u8], y: Summary, t: Tallies) -> ModuleAnswer
+fn join_parts(file: &[u8], y: Summary, t: Tallies) -> Result<Module, Refusal>
     requires { Inside file.now y × ((aux_layout y.format).length ≤ y.opthdr) × (t ≡ tallies_of y) × (one_each t ≡ true) }
-    ensures { result ≡ by_verdict (thread_check y or_else parts_check (parts_of y) (aux_of file.now y)) (ModuleAnswer.Found (module_with y.format (parts_of y) (aux_of file.now y))) ModuleAnswer.Refused }
+    ensures { result ≡ by_verdict (thread_check y or_else parts_check (parts_of y) (aux_of file.now y)) (Ok (module_with y.format (parts_of y) (aux_of file.now y))) Err }
 {
     let sections = y.sections;
-    let v = parts::check_thread(sections, y.count);
-    if let Verdict::Refused(x) = v {
-        return ModuleAnswer::Refused(x);
-    }
+    parts::check_thread(sections, y.count)?;
     let f = y.format;
     let l = format::header_layout(f);
     let a = auxiliary::read_aux(file, f, l.length);
     let p = parts::find_parts(y, t);
-    let w = check_parts(p, a);
-    match w {
-        Verdict::Refused(x) => ModuleAnswer::Refused(x),
-        Verdict::Accepted => ModuleAnswer::Found(module_with(f, p, a)),
-    }
+    check_parts(p, a)?;
+    Ok(module_with(f, p, a))
 }
 
 // The module of an opened file.
-fn module_in(file: &[u8], y: Summary) -> ModuleAnswer
+fn module_in(file: &[u8], y: Summary) -> Result<Module, Refusal>
     requires { Inside file.now y }
     ensures { result ≡ module_in file.now y }
 {
     let f = y.format;
     let l = format::aux_layout(f);
     if y.opthdr < l.length {
-        return ModuleAnswer::Refused(Refusal::Module(ModuleItem::ShortAuxHeader));
+        return Err(Refusal::Module(ModuleItem::ShortAuxHeader));
     }
     let t = parts::tally_all(y);
     if parts::has_one_each(t) {
         return join_parts(file, y, t);
     }
-    ModuleAnswer::Refused(Refusal::Module(ModuleItem::SectionSet))
+    Err(Refusal::Module(ModuleItem::SectionSet))
 }
 
 // The module that a file is: opening's refusals, then the module's own.
-pub fn find_module(file: &[u8]) -> ModuleAnswer
+pub fn find_module(file: &[u8]) -> Result<Module, Refusal>
     ensures { result ≡ module_at file.now }
 {
     let o = header::open(file);
-    let v = o.verdict;
-    match v {
-        Verdict::Refused(x) => ModuleAnswer::Refused(x),
-        Verdict::Accepted => {
-            let y = o.summary;
-            module_in(file, y)
-        }
-    }
+    o.verdict?;
+    let y = o.summary;
+    module_in(file, y)
 }

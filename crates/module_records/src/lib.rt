@@ -9,9 +9,8 @@ ghost use Rattle.offset.specs.Report.{report_head};
 ghost use Rattle.srecord.specs.Records.{length_answer, report_of_length, record_write_check, records_written, record_read_check, text_after, data_after};
 
 use displacement::Addresses;
-use loadable::{Loadable, LoadableAnswer};
-use refusal::{Refusal, RoomItem, Verdict};
-use srecord::LengthAnswer;
+use loadable::Loadable;
+use refusal::{Refusal, RoomItem};
 
 // Writing for a module that is accepted.
 fn write_valid(
@@ -22,28 +21,22 @@ fn write_valid(
     text: &[u8],
     data: &[u8],
     out: &mut [u8],
-) -> Verdict
+) -> Result<(), Refusal>
     requires { Valid file.now l }
     ensures cause { result ≡ record_write_check (relocatable_of file.now l) (plan_of at imports.now) (length text.now) (length «data».now) (length out.old) }
     ensures records { out.new ≡ records_written (relocatable_of file.now l) (plan_of at imports.now) text.now «data».now out.old }
 {
-    let v = srecord::check_records(file, l, at, imports);
-    if refusal::refuses(v) {
-        return v;
-    }
-    let room = call_check::check_room(l, text.len(), data.len());
-    if refusal::refuses(room) {
-        return room;
-    }
+    srecord::check_records(file, l, at, imports)?;
+    call_check::check_room(l, text.len(), data.len())?;
     let n = record_text::text_length(text.len(), data.len());
     if out.len() != n {
-        return Verdict::Refused(Refusal::Room(RoomItem::RecordBuffer));
+        return Err(Refusal::Room(RoomItem::RecordBuffer));
     }
     let t = at.text;
     let d = at.data;
     let entry = srecord::entry_address(l, at);
     record_text::put_text(out, t, text, d, data, entry);
-    Verdict::Accepted
+    Ok(())
 }
 
 // Reading for a module that is accepted.
@@ -55,40 +48,31 @@ fn read_valid(
     records: &[u8],
     text: &mut [u8],
     data: &mut [u8],
-) -> Verdict
+) -> Result<(), Refusal>
     requires { Valid file.now l }
     ensures cause { result ≡ record_read_check (relocatable_of file.now l) (plan_of at imports.now) (length text.old) (length «data».old) records.now }
     ensures text { text.new ≡ text_after (relocatable_of file.now l) (plan_of at imports.now) records.now text.old «data».old }
     ensures data { «data».new ≡ data_after (relocatable_of file.now l) (plan_of at imports.now) records.now text.old «data».old }
 {
-    let v = srecord::check_records(file, l, at, imports);
-    if refusal::refuses(v) {
-        return v;
-    }
-    let room = call_check::check_room(l, text.len(), data.len());
-    if refusal::refuses(room) {
-        return room;
-    }
+    srecord::check_records(file, l, at, imports)?;
+    call_check::check_room(l, text.len(), data.len())?;
     let t = at.text;
     let d = at.data;
     let entry = srecord::entry_address(l, at);
     let bad = record_text::read_text(records, t, d, entry, text, data);
     if bad != 0 {
-        return Verdict::Refused(Refusal::Record(bad));
+        return Err(Refusal::Record(bad));
     }
-    Verdict::Accepted
+    Ok(())
 }
 
 // How long the record text of a module's images for a plan is.
-pub fn records_length(file: &[u8], at: Addresses, imports: &[u64]) -> LengthAnswer
+pub fn records_length(file: &[u8], at: Addresses, imports: &[u64]) -> Result<u64, Refusal>
     ensures cause { result ≡ length_answer (relocatable_at file.now) (plan_of at imports.now) }
     ensures report { report_of_length file.now result ≡ report_of_length file.now (length_answer (relocatable_at file.now) (plan_of at imports.now)) }
 {
-    let a = loadable::module_of(file);
-    match a {
-        LoadableAnswer::Refused(x) => LengthAnswer::Refused(x),
-        LoadableAnswer::Found(l) => srecord::length_valid(file, l, at, imports),
-    }
+    let l = loadable::module_of(file)?;
+    srecord::length_valid(file, l, at, imports)
 }
 
 // Writes the two images as they are as S-records for a plan.
@@ -99,16 +83,13 @@ pub fn write_records(
     text: &[u8],
     data: &[u8],
     out: &mut [u8],
-) -> Verdict
+) -> Result<(), Refusal>
     ensures cause { result ≡ record_write_check (relocatable_at file.now) (plan_of at imports.now) (length text.now) (length «data».now) (length out.old) }
     ensures report { report_head file.now result ≡ report_head file.now (record_write_check (relocatable_at file.now) (plan_of at imports.now) (length text.now) (length «data».now) (length out.old)) }
     ensures records { out.new ≡ records_written (relocatable_at file.now) (plan_of at imports.now) text.now «data».now out.old }
 {
-    let a = loadable::module_of(file);
-    match a {
-        LoadableAnswer::Refused(x) => Verdict::Refused(x),
-        LoadableAnswer::Found(l) => write_valid(file, l, at, imports, text, data, out),
-    }
+    let l = loadable::module_of(file)?;
+    write_valid(file, l, at, imports, text, data, out)
 }
 
 // Reads S-records for a plan back into two image buffers.
@@ -119,15 +100,12 @@ pub fn read_records(
     records: &[u8],
     text: &mut [u8],
     data: &mut [u8],
-) -> Verdict
+) -> Result<(), Refusal>
     ensures cause { result ≡ record_read_check (relocatable_at file.now) (plan_of at imports.now) (length text.old) (length «data».old) records.now }
     ensures report { report_head file.now result ≡ report_head file.now (record_read_check (relocatable_at file.now) (plan_of at imports.now) (length text.old) (length «data».old) records.now) }
     ensures text { text.new ≡ text_after (relocatable_at file.now) (plan_of at imports.now) records.now text.old «data».old }
     ensures data { «data».new ≡ data_after (relocatable_at file.now) (plan_of at imports.now) records.now text.old «data».old }
 {
-    let a = loadable::module_of(file);
-    match a {
-        LoadableAnswer::Refused(x) => Verdict::Refused(x),
-        LoadableAnswer::Found(l) => read_valid(file, l, at, imports, records, text, data),
-    }
+    let l = loadable::module_of(file)?;
+    read_valid(file, l, at, imports, records, text, data)
 }

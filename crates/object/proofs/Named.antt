@@ -9,8 +9,6 @@ use lib.Dec.{eqb}
 use lib.ListN.{length}
 use Rattle.word.specs.Test.{past}
 use Rattle.word.proofs.Test.{either}
-use Rattle.section_kind.specs.declared.KindAnswer.{KindAnswer}
-use Rattle.section_kind.specs.declared.KindAnswer.TheVariants.{Allowed, NotAllowed}
 use Rattle.section_kind.specs.Kind.{kind_of}
 use Rattle.format.specs.declared.FileOffset.{FileOffset}
 use Rattle.format.specs.declared.Format.{Format}
@@ -20,14 +18,10 @@ use Rattle.refusal.specs.declared.ModuleItem.TheVariants.{NoRawData}
 use Rattle.refusal.specs.declared.SectionRelocation.{SectionRelocation}
 use Rattle.refusal.specs.declared.Refusal.{Refusal}
 use Rattle.refusal.specs.declared.Refusal.TheVariants as refusal
-use Rattle.refusal.specs.declared.Verdict.{Verdict}
-use Rattle.refusal.specs.declared.Verdict.TheVariants as verdict
 use Rattle.refusal.specs.Order.{by_verdict}
 use Rattle.refusal.proofs.Causes.{Causes, cause-if, cause-test, cause-then, cause-first}
 use Rattle.refusal.proofs.Order.{not-accepted}
 use Rattle.section.specs.declared.Section.{Section}
-use Rattle.section.specs.declared.SectionAnswer.{SectionAnswer}
-use Rattle.section.specs.declared.SectionAnswer.TheVariants as answer
 use Rattle.section.specs.declared.SectionHeader.{SectionHeader}
 use Rattle.section.specs.Section.{section_header_at, raw_data_past, misplaced, section_of, judge_kind, judge_section}
 use Rattle.file_header.specs.declared.FileHeader.{FileHeader}
@@ -45,8 +39,6 @@ use Rattle.symbol.specs.Entry.{tables_of}
 use Rattle.table_kind.specs.declared.TableKind.{TableKind}
 use Rattle.table_kind.specs.declared.TableKind.TheVariants.{Relocations}
 use Rattle.table_kind.specs.Kind.{entry_length}
-use Rattle.section_tables.specs.declared.TableAnswer.{TableAnswer}
-use Rattle.section_tables.specs.declared.TableAnswer.TheVariants as table
 use Rattle.section_tables.specs.Tables.{header_start, is_overflowed, overflow_of, table_at, table_by, table_of}
 use Rattle.section_tables.proofs.Named.{TableCauses, table-named}
 use Rattle.section_relocation.specs.declared.ObjectSection.{ObjectSection}
@@ -54,32 +46,35 @@ use Rattle.section_relocation.specs.Entry.{entry_in, field_in, name_of}
 use Rattle.section_overlap.specs.Overlap.{meets}
 use Rattle.object_entry.specs.Entry.{is_good, own_at}
 use Rattle.section_entries.specs.Entries.{entry_check, entries_check}
-use Rattle.object.specs.declared.ObjectAnswer.{ObjectAnswer}
-use Rattle.object.specs.declared.ObjectAnswer.TheVariants.{Found, Refused}
 use Rattle.object.specs.Sections.{is_held_kind, section_at, number_at, table_or, held_part, empty_part, part_at, bytes_before, entries_before, object_section}
 use Rattle.object.specs.Check.{table_verdict, lacks_data, section_check, sections_check, table_check, tables_check, object_in, object_check, file_of, object_at}
 use Rattle.object.proofs.Sections.{part-number, part-ready}
+use Rattle.std.specs.Prelude.{Err, None, Ok, Option, Result, Some}
+use Rattle.section_kind.specs.declared.SectionKind.{SectionKind}
+use Rattle.section_tables.specs.declared.SectionTable.{SectionTable}
+use Rattle.object.specs.declared.ObjectFile.{ObjectFile}
+use Rattle.refusal.specs.Verdict.{Verdict}
 
 -- ---- where a section's table starts: as its header says
 
 -- an accepted section's record has it from the header
-abbrev Kept : SectionHeader → SectionAnswer → Type 0
-Kept s (answer.Found r) = r.relptr ≡ s.relptr
-Kept s (answer.Refused x) = Unit {0}
+abbrev Kept : SectionHeader → Result Section Refusal → Type 0
+Kept s (Ok r) = r.relptr ≡ s.relptr
+Kept s (Err x) = Unit {0}
 
-kept-kind : (f : Format) (len : ℕ) (s : SectionHeader) (n : SectionNumber) (a : KindAnswer) → Kept s (judge_kind f len s n a)
+kept-kind : (f : Format) (len : ℕ) (s : SectionHeader) (n : SectionNumber) (a : Option SectionKind) → Kept s (judge_kind f len s n a)
 unfolding judge_kind section_of
-kept-kind f len s n NotAllowed = tt
-kept-kind f len s n (Allowed k) = either (Kept s) (raw_data_past k len s) (λ _. tt) (λ _. either (Kept s) (misplaced f k s) (λ _. tt) (λ _. refl))
+kept-kind f len s n None = tt
+kept-kind f len s n (Some k) = either (Kept s) (raw_data_past k len s) (λ _. tt) (λ _. either (Kept s) (misplaced f k s) (λ _. tt) (λ _. refl))
 
-kept-found : (s : SectionHeader) (a : SectionAnswer) → Kept s a → verdict_of a ≡ verdict.Accepted → (record_of a).relptr ≡ s.relptr
-kept-found s (answer.Found r) k e = k
-kept-found s (answer.Refused x) k e = not-accepted e
+kept-found : (s : SectionHeader) (a : Result Section Refusal) → Kept s a → verdict_of a ≡ Ok tt → (record_of a).relptr ≡ s.relptr
+kept-found s (Ok r) k e = k
+kept-found s (Err x) k e = not-accepted e
 
 -- a table that is found starts there
-abbrev StartsAt : FileOffset → TableAnswer → Type 0
-StartsAt p (table.Found t) = t.start ≡ p
-StartsAt p (table.Refused x) = Unit {0}
+abbrev StartsAt : FileOffset → Result SectionTable Refusal → Type 0
+StartsAt p (Ok t) = t.start ≡ p
+StartsAt p (Err x) = Unit {0}
 
 at-start : (k : TableKind) (f : Format) (len : ℕ) (n : SectionNumber) (start : FileOffset) (count : ℕ) → StartsAt start (table_at k f len n start count)
 unfolding table_at
@@ -97,9 +92,9 @@ part-table : (len : ℕ) (y : Summary) (k place first i : ℕ) → i < (part_at 
 unfolding part_at
 part-table len y k place first i l = by (is_held_kind (section_at y k).kind) l
   where
-    found : (a : TableAnswer) → StartsAt (section_at y k).relptr a → i < (table_or a).count → (table_or a).start ≡ (section_at y k).relptr
-    found (table.Found t) s h = s
-    found (table.Refused x) s h = absurd (omega arith)
+    found : (a : Result SectionTable Refusal) → StartsAt (section_at y k).relptr a → i < (table_or a).count → (table_or a).start ≡ (section_at y k).relptr
+    found (Ok t) s h = s
+    found (Err x) s h = absurd (omega arith)
 
     starts : StartsAt (section_at y k).relptr (table_of Relocations y len (number_at k))
     starts =
@@ -119,7 +114,7 @@ first-place f opthdr k =
     let e : k + 1 - 1 ≡ k = omega arith in
     rw e (let z = zero-mul (section_layout f).length in omega arith)
 
-module _ (file : List ℕ) (opened : (open_of file).verdict ≡ verdict.Accepted) where
+module _ (file : List ℕ) (opened : (open_of file).verdict ≡ Ok tt) where
   abbrev y : Summary
   y = (open_of file).summary
 
@@ -155,9 +150,9 @@ module _ (file : List ℕ) (opened : (open_of file).verdict ≡ verdict.Accepted
 
   -- ---- MODULE 3 and BOUNDS
 
-  table-cause : (a : TableAnswer) → TableCauses P a → Causes P (table_verdict a)
-  table-cause (table.Found t) c = tt
-  table-cause (table.Refused x) c = c
+  table-cause : (a : Result SectionTable Refusal) → TableCauses P a → Causes P (table_verdict a)
+  table-cause (Ok t) c = tt
+  table-cause (Err x) c = c
 
   section-named : (k : ℕ) → k < y.count → Causes P (section_check (length file) y k)
   unfolding section_check
@@ -173,7 +168,7 @@ module _ (file : List ℕ) (opened : (open_of file).verdict ≡ verdict.Accepted
 
   -- ---- an entry of a section's table
 
-  module _ (good : sections_check (length file) y ≡ verdict.Accepted) (k : ℕ) (l : k < y.count) (i : ℕ) (few : i < (part k).count) where
+  module _ (good : sections_check (length file) y ≡ Ok tt) (k : ℕ) (l : k < y.count) (i : ℕ) (few : i < (part k).count) where
     abbrev name : SectionRelocation
     name = name_of (part k) i
 
@@ -210,7 +205,7 @@ module _ (file : List ℕ) (opened : (open_of file).verdict ≡ verdict.Accepted
         cause-test P (not (is_good file t (part k) (entry_in file t.format (part k) i))) (refusal.SectionLrel name) _ (λ _. lrel-named)
         (λ _. cause-if P (meets (field_in file t.format (part k)) i) (refusal.SectionOverlap name) (λ _. overlap-named))
 
-  module _ (good : sections_check (length file) y ≡ verdict.Accepted) where
+  module _ (good : sections_check (length file) y ≡ Ok tt) where
     entries-named : (k : ℕ) → k < y.count → (t : Tables) → Causes P (entries_check file t (part k))
     unfolding entries_check
     entries-named k l t = cause-first P (entry_check file t (part k)) 0 (part k).count (λ i _ q. entry_named good k l i (omega arith) t)
@@ -229,15 +224,15 @@ pub check-named : (file : List ℕ) → Causes (Named file) (object_check file)
 unfolding object_check
 check-named file = cause-then (Named file) (open_of file).verdict _ (opened-named file) (in-named file)
 
-abbrev pub ObjectCauses : (Refusal → Type 0) → ObjectAnswer → Type 0
-ObjectCauses P (Found x) = Unit {0}
-ObjectCauses P (Refused x) = P x
+abbrev pub ObjectCauses : (Refusal → Type 0) → Result ObjectFile Refusal → Type 0
+ObjectCauses P (Ok x) = Unit {0}
+ObjectCauses P (Err x) = P x
 
 -- request 4: what the refusal of an object file names is there
 pub object-named : (file : List ℕ) → ObjectCauses (Named file) (object_at file)
 unfolding object_at
 object-named file = by (object_check file) (check-named file)
   where
-    by : (v : Verdict) → Causes (Named file) v → ObjectCauses (Named file) (by_verdict v (Found (file_of (length file) (open_of file).summary)) Refused)
-    by verdict.Accepted c = tt
-    by (verdict.Refused x) c = c
+    by : (v : Verdict) → Causes (Named file) v → ObjectCauses (Named file) (by_verdict v (Ok (file_of (length file) (open_of file).summary)) Err)
+    by (Ok tt) c = tt
+    by (Err x) c = c

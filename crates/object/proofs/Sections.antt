@@ -16,8 +16,6 @@ use Rattle.format.specs.declared.Format.{Format}
 use Rattle.format.specs.Limit.{file_limit}
 use Rattle.refusal.specs.declared.ModuleItem.TheVariants.{NoRawData}
 use Rattle.refusal.specs.declared.Refusal.TheVariants as refusal
-use Rattle.refusal.specs.declared.Verdict.{Verdict}
-use Rattle.refusal.specs.declared.Verdict.TheVariants as verdict
 use Rattle.refusal.specs.Order.{◌or_else◌, refuse_if}
 use Rattle.refusal.proofs.Order.{accepted-first, accepted-rest, accepted-test, first-all, not-accepted}
 use Rattle.header.specs.declared.Summary.{Summary}
@@ -29,8 +27,6 @@ use Rattle.table_kind.specs.declared.TableKind.TheVariants.{Relocations}
 use Rattle.table_kind.specs.Kind.{entry_length}
 use Rattle.table_kind.proofs.Places.{count-within}
 use Rattle.section_tables.specs.declared.SectionTable.{SectionTable}
-use Rattle.section_tables.specs.declared.TableAnswer.{TableAnswer}
-use Rattle.section_tables.specs.declared.TableAnswer.TheVariants as table
 use Rattle.section_tables.specs.Tables.{table_of}
 use Rattle.section_tables.proofs.Tables.{found_within}
 use Rattle.section_relocation.specs.declared.ObjectSection.{ObjectSection}
@@ -39,6 +35,9 @@ use Rattle.section_entries.specs.Entries.{EntriesReady, entries_check}
 use Rattle.object.specs.Sections.{is_held_kind, section_at, number_at, table_or, held_part, empty_part, part_at, bytes_before, entries_before, object_section}
 use Rattle.object.specs.Check.{table_verdict, lacks_data, section_check, sections_check, table_check, file_of, Ready, SectionsReady}
 use Rattle.object.specs.declared.ObjectFile.{ObjectFile}
+use Rattle.std.specs.Prelude.{Err, Ok, Result}
+use Rattle.refusal.specs.declared.Refusal.{Refusal}
+use Rattle.refusal.specs.Verdict.{Verdict}
 
 zero-times : (n : ℕ) → 0 * n ≡ 0
 zero-times n = zero-mul n
@@ -109,22 +108,22 @@ module _ (len : ℕ) (y : Summary) (k : ℕ) where
 -- what an accepted text or data section is: raw data where it has a size, and a table in the file
 record HeldReady (len : ℕ) (y : Summary) (k : ℕ) : Type 0 where
   raw : 0 < (section_at y k).size → (section_at y k).raw ≡ true
-  table : table_verdict (table_of Relocations y len (number_at k)) ≡ verdict.Accepted
+  table : table_verdict (table_of Relocations y len (number_at k)) ≡ Ok tt
 
-held-ready : (len : ℕ) (y : Summary) (k : ℕ) → is_held_kind (section_at y k).kind ≡ true → section_check len y k ≡ verdict.Accepted → HeldReady len y k
+held-ready : (len : ℕ) (y : Summary) (k : ℕ) → is_held_kind (section_at y k).kind ≡ true → section_check len y k ≡ Ok tt → HeldReady len y k
 held-ready len y k h e = from (opened e)
   where
     whole : Verdict
     whole = refuse_if (not (eqb (section_at y k).size 0) && not (section_at y k).raw) (refusal.Module NoRawData) or_else table_verdict (table_of Relocations y len (number_at k))
 
-    opened : section_check len y k ≡ verdict.Accepted → whole ≡ verdict.Accepted
+    opened : section_check len y k ≡ Ok tt → whole ≡ Ok tt
     opened q = unfold section_check in (rw h at q)
 
     some : (n : ℕ) (b : Bool) → (not (eqb n 0) && not b) ≡ false → 0 < n → b ≡ true
     some n true q l = refl
     some n false q l = let z : eqb n 0 ≡ false = ne_eqb n 0 (λ w. omega arith) in absurd (let o : ◌≡◌ {A = ℕ} 0 1 = (let t : true ≡ false = rw z at q in cc) in omega arith)
 
-    from : whole ≡ verdict.Accepted → HeldReady len y k
+    from : whole ≡ Ok tt → HeldReady len y k
     from q =
         record {
           raw = λ l. some (section_at y k).size (section_at y k).raw (accepted-test (not (eqb (section_at y k).size 0) && not (section_at y k).raw) (refusal.Module NoRawData) (accepted-first _ _ q)) l;
@@ -136,23 +135,23 @@ record PartIn (len : ℕ) (f : Format) (s : ObjectSection) : Type 0 where
   raw : 0 < s.size → s.raw.0 + s.size ≤ len
   table : s.table.0 + s.count * entry_length Relocations f ≤ len
 
-table-in : (len : ℕ) (y : Summary) (k : ℕ) → table_verdict (table_of Relocations y len (number_at k)) ≡ verdict.Accepted
+table-in : (len : ℕ) (y : Summary) (k : ℕ) → table_verdict (table_of Relocations y len (number_at k)) ≡ Ok tt
     → (table_or (table_of Relocations y len (number_at k))).start.0 + (table_or (table_of Relocations y len (number_at k))).count * entry_length Relocations y.format ≤ len
 table-in len y k e = by (table_of Relocations y len (number_at k)) refl e
   where
-    by : (a : TableAnswer) → table_of Relocations y len (number_at k) ≡ a → table_verdict a ≡ verdict.Accepted
+    by : (a : Result SectionTable Refusal) → table_of Relocations y len (number_at k) ≡ a → table_verdict a ≡ Ok tt
         → (table_or a).start.0 + (table_or a).count * entry_length Relocations y.format ≤ len
-    by (table.Found t) q h = found_within Relocations y len (number_at k) q
-    by (table.Refused x) q h = not-accepted h
+    by (Ok t) q h = found_within Relocations y len (number_at k) q
+    by (Err x) q h = not-accepted h
 
-module _ (file : List ℕ) (y : Summary) (inside : Inside file y) (good : sections_check (length file) y ≡ verdict.Accepted) where
+module _ (file : List ℕ) (y : Summary) (inside : Inside file y) (good : sections_check (length file) y ≡ Ok tt) where
   abbrev len : ℕ
   len = length file
 
-  check-accepted : (k : ℕ) → k < y.count → section_check len y k ≡ verdict.Accepted
+  check-accepted : (k : ℕ) → k < y.count → section_check len y k ≡ Ok tt
   check-accepted k l = from good
     where
-      from : sections_check len y ≡ verdict.Accepted → section_check len y k ≡ verdict.Accepted
+      from : sections_check len y ≡ Ok tt → section_check len y k ≡ Ok tt
       from e = unfold sections_check in first-all (section_check len y) y.count 0 e k (omega arith) (omega arith)
 
   part_in : (k place first : ℕ) → k < y.count → PartIn len y.format (part_at len y k place first)
@@ -230,21 +229,21 @@ module _ (len : ℕ) (y : Summary) (k : ℕ) where
   unfolding part_at
   part_none place first e h = rw (← e) (rw h refl)
 
-  pub part-some : {b : Bool} {t : SectionTable} {a : TableAnswer} (place first : ℕ) → b ≡ is_held_kind (section_at y k).kind → b ≡ true → a ≡ table_of Relocations y len (number_at k)
+  pub part-some : {b : Bool} {t : SectionTable} {a : Result SectionTable Refusal} (place first : ℕ) → b ≡ is_held_kind (section_at y k).kind → b ≡ true → a ≡ table_of Relocations y len (number_at k)
       → t ≡ table_or a → held_part (section_at y k) (number_at k) t place first ≡ part_at len y k place first
   unfolding part_at
   part-some place first e h p q = rw (← e) (rw (h, ← p) (rw q refl))
 
-  pub check-other : {b : Bool} → b ≡ is_held_kind (section_at y k).kind → b ≡ false → verdict.Accepted ≡ section_check len y k
+  pub check-other : {b : Bool} → b ≡ is_held_kind (section_at y k).kind → b ≡ false → (Ok tt) ≡ section_check len y k
   unfolding section_check
   check-other e h = rw (← e) (rw h refl)
 
   pub check-raw : {b c : Bool} → b ≡ is_held_kind (section_at y k).kind → b ≡ true → c ≡ lacks_data (section_at y k) → c ≡ true
-      → verdict.Refused (refusal.Module NoRawData) ≡ section_check len y k
+      → Err (refusal.Module NoRawData) ≡ section_check len y k
   unfolding section_check
   check-raw e h p q = rw (← e) (rw (h, ← p) (rw q refl))
 
-  pub check-table : {b c : Bool} {a : TableAnswer} {v : Verdict} → b ≡ is_held_kind (section_at y k).kind → b ≡ true → c ≡ lacks_data (section_at y k) → c ≡ false
+  pub check-table : {b c : Bool} {a : Result SectionTable Refusal} {v : Verdict} → b ≡ is_held_kind (section_at y k).kind → b ≡ true → c ≡ lacks_data (section_at y k) → c ≡ false
       → a ≡ table_of Relocations y len (number_at k) → v ≡ table_verdict a → v ≡ section_check len y k
   unfolding section_check
   check-table e h p z q r = rw (← e) (rw (h, ← p) (rw (z, ← q) r))

@@ -1,5 +1,5 @@
 -- The text and data sections of an object file: their tables, where their bytes are in the buffer, and how their entries are numbered.
-use Rattle.std.specs.Prelude.{ℕ, zero, suc, ◌+◌, Bool, cond, [], ◌∷◌, get_or}
+use Rattle.std.specs.Prelude.{ℕ, zero, suc, ◌+◌, Bool, cond, [], ◌∷◌, get_or, Err, Ok, Result}
 use Rattle.section_kind.specs.declared.SectionKind.{SectionKind}
 use Rattle.section_kind.specs.declared.SectionKind.TheVariants.{Text, Data}
 use Rattle.section_kind.specs.Kind.{is_one_of}
@@ -9,10 +9,9 @@ use Rattle.file_tables.specs.Tables.{blank_section}
 use Rattle.header.specs.declared.Summary.{Summary}
 use Rattle.table_kind.specs.declared.TableKind.TheVariants.{Relocations}
 use Rattle.section_tables.specs.declared.SectionTable.{SectionTable}
-use Rattle.section_tables.specs.declared.TableAnswer.{TableAnswer}
-use Rattle.section_tables.specs.declared.TableAnswer.TheVariants as table
 use Rattle.section_tables.specs.Tables.{table_of}
 use Rattle.section_relocation.specs.declared.ObjectSection.{ObjectSection}
+use Rattle.refusal.specs.declared.Refusal.{Refusal}
 
 -- text or data: the sections whose bytes the buffer takes
 abbrev pub is_held_kind : SectionKind → Bool
@@ -26,9 +25,9 @@ abbrev pub number_at : ℕ → SectionNumber
 number_at k = record { 0 = k + 1 }
 
 -- a table that BOUNDS refuses has no entries
-abbrev pub table_or : TableAnswer → SectionTable
-table_or (table.Found t) = t
-table_or (table.Refused x) = record { start = record { 0 = 0 }; count = 0 }
+abbrev pub table_or : Result SectionTable Refusal → SectionTable
+table_or (Ok t) = t
+table_or (Err x) = record { start = record { 0 = 0 }; count = 0 }
 
 abbrev pub held_part : Section → SectionNumber → SectionTable → ℕ → ℕ → ObjectSection
 held_part s n t place first =

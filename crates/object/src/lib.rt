@@ -8,11 +8,11 @@ ghost use Rattle.object.specs.Check.{table_verdict, lacks_data, section_check, s
 
 use format::{FileOffset, SectionNumber, VirtualAddress};
 use header::Summary;
-use refusal::{Head, ModuleItem, Refusal, Verdict};
+use refusal::{Head, ModuleItem, Refusal};
 use section::Section;
 use section_kind::SectionKind;
 use section_relocation::ObjectSection;
-use section_tables::{SectionTable, TableAnswer};
+use section_tables::SectionTable;
 use symbol::Tables;
 use table_kind::TableKind;
 
@@ -22,12 +22,6 @@ pub struct ObjectFile {
     pub sections: u64,
     pub entries: u64,
     pub length: u64,
-}
-
-#[derive(Clone, Copy)]
-pub enum ObjectAnswer {
-    Found(ObjectFile),
-    Refused(Refusal),
 }
 
 #[repr(C)]
@@ -49,12 +43,12 @@ pub fn is_held_kind(k: SectionKind) -> bool
     k.flags() == SectionKind::DATA
 }
 
-fn table_or(a: TableAnswer) -> SectionTable
+fn table_or(a: Result<SectionTable, Refusal>) -> SectionTable
     ensures { result ≡ table_or a }
 {
     match a {
-        TableAnswer::Found(t) => t,
-        TableAnswer::Refused(_) => SectionTable {
+        Ok(t) => t,
+        Err(_) => SectionTable {
             start: FileOffset(0),
             count: 0,
         },
@@ -105,13 +99,11 @@ pub fn part_of(y: Summary, len: u64, k: u64, place: u64, first: u64) -> ObjectSe
     }
 }
 
-fn table_verdict(a: TableAnswer) -> Verdict
+fn table_verdict(a: Result<SectionTable, Refusal>) -> Result<(), Refusal>
     ensures { result ≡ table_verdict a }
 {
-    match a {
-        TableAnswer::Found(_) => Verdict::Accepted,
-        TableAnswer::Refused(x) => Verdict::Refused(x),
-    }
+    let _ = a?;
+    Ok(())
 }
 
 // Whether the section has a size but no raw data.
@@ -125,7 +117,7 @@ fn lacks_data(s: Section) -> bool
 }
 
 // MODULE 3 and BOUNDS of the section with place `k`, where it is text or data.
-fn check_section(y: Summary, len: u64, k: u64) -> Verdict
+fn check_section(y: Summary, len: u64, k: u64) -> Result<(), Refusal>
     requires { (k < y.count) × (y.count ≤ section_limit) }
     ensures { result ≡ section_check len y k }
 {
@@ -133,63 +125,48 @@ fn check_section(y: Summary, len: u64, k: u64) -> Verdict
     let s = sections[k as usize];
     let kind = s.kind;
     if !is_held_kind(kind) {
-        return Verdict::Accepted;
+        return Ok(());
     }
     if lacks_data(s) {
-        return Verdict::Refused(Refusal::Module(ModuleItem::NoRawData));
+        return Err(Refusal::Module(ModuleItem::NoRawData));
     }
     let a = section_tables::find_table(TableKind::Relocations, y, len, SectionNumber(k + 1));
     table_verdict(a)
 }
 
-fn check_sections(y: Summary, len: u64) -> Verdict
+fn check_sections(y: Summary, len: u64) -> Result<(), Refusal>
     requires { y.count ≤ section_limit }
     ensures { result ≡ sections_check len y }
 {
-    let n = y.count;
-    let mut k: u64 = 0;
-    while k < n {
-        let v = check_section(y, len, k);
-        if refusal::refuses(v) {
-            return v;
-        }
-        k += 1;
+    for k in 0..y.count {
+        check_section(y, len, k)?;
     }
-    Verdict::Accepted
+    Ok(())
 }
 
 // The entries of each section in order: LREL, OVERLAP.
-fn check_tables(file: &[u8], y: Summary, t: Tables) -> Verdict
+fn check_tables(file: &[u8], y: Summary, t: Tables) -> Result<(), Refusal>
     requires { SectionsReady file.now y t }
     ensures { result ≡ tables_check file.now y }
 {
-    let n = y.count;
     let len = file.len() as u64;
     let mut place: u64 = 0;
     let mut first: u64 = 0;
-    let mut k: u64 = 0;
-    while k < n {
+    for k in 0..y.count {
         let s = part_of(y, len, k, place, first);
-        let v = section_entries::check_entries(file, t, s);
-        if refusal::refuses(v) {
-            return v;
-        }
+        section_entries::check_entries(file, t, s)?;
         place += s.size;
         first += s.count;
-        k += 1;
     }
-    Verdict::Accepted
+    Ok(())
 }
 
 // The object in an opened file, judged: MODULE 3 and BOUNDS by section, then LREL and OVERLAP by entry.
-pub fn check_object(file: &[u8], y: Summary, t: Tables) -> Verdict
+pub fn check_object(file: &[u8], y: Summary, t: Tables) -> Result<(), Refusal>
     requires { Ready file.now y t }
     ensures { result ≡ object_in file.now y }
 {
-    let v = check_sections(y, file.len() as u64);
-    if refusal::refuses(v) {
-        return v;
-    }
+    check_sections(y, file.len() as u64)?;
     check_tables(file, y, t)
 }
 
@@ -198,56 +175,45 @@ pub fn measure(file: &[u8], y: Summary, t: Tables) -> ObjectFile
     requires { SectionsReady file.now y t }
     ensures { result ≡ file_of (length file.now) y }
 {
-    let n = y.count;
     let len = file.len() as u64;
     let mut place: u64 = 0;
     let mut first: u64 = 0;
-    let mut k: u64 = 0;
-    while k < n {
+    for k in 0..y.count {
         let s = part_of(y, len, k, place, first);
         place += s.size;
         first += s.count;
-        k += 1;
     }
     ObjectFile {
-        sections: n,
+        sections: y.count,
         entries: first,
         length: place,
     }
 }
 
 // The object in a file.
-pub fn object_of(file: &[u8]) -> ObjectAnswer
+pub fn object_of(file: &[u8]) -> Result<ObjectFile, Refusal>
     ensures cause { result ≡ object_at file.now }
     ensures report { report_of_object file.now result ≡ object_report file.now }
 {
     let o = header::open(file);
-    let v = o.verdict;
-    match v {
-        Verdict::Refused(x) => ObjectAnswer::Refused(x),
-        Verdict::Accepted => {
-            let y = o.summary;
-            let t = symbol::tables_of(file, y);
-            let w = check_object(file, y, t);
-            match w {
-                Verdict::Refused(x) => ObjectAnswer::Refused(x),
-                Verdict::Accepted => ObjectAnswer::Found(measure(file, y, t)),
-            }
-        }
-    }
+    o.verdict?;
+    let y = o.summary;
+    let t = symbol::tables_of(file, y);
+    check_object(file, y, t)?;
+    Ok(measure(file, y, t))
 }
 
-pub fn report_object(file: &[u8], a: ObjectAnswer) -> ObjectReport
+pub fn report_object(file: &[u8], a: Result<ObjectFile, Refusal>) -> ObjectReport
     ensures { result ≡ report_of_object file.now a }
 {
     match a {
-        ObjectAnswer::Refused(x) => ObjectReport {
+        Err(x) => ObjectReport {
             head: offset::refusal_head(file, x),
             sections: 0,
             entries: 0,
             length: 0,
         },
-        ObjectAnswer::Found(o) => ObjectReport {
+        Ok(o) => ObjectReport {
             head: refusal::accepted_head(),
             sections: o.sections,
             entries: o.entries,

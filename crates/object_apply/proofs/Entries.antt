@@ -1,7 +1,6 @@
 -- Entries applied, one, those of a section, and all. Assumes nothing.
 use Rattle.std.proofs.Common.{◌≡◌, ℕ, ◌+◌, ◌-◌, ◌^◌, ◌<◌, ◌≤◌, List, [], ◌∷◌, ◌++◌, length, pos, sym, refl, ap, ◌∙◌, arith}
 use Rattle.update.specs.Update.{remainder}
-use Rattle.refusal.specs.declared.Verdict.TheVariants.{Accepted}
 use Rattle.field_kind.specs.Field.{bytes_in, add_to}
 use Rattle.field_kind.proofs.Laws.{add_to-alike}
 use Rattle.header.specs.declared.Summary.{Summary}
@@ -23,13 +22,14 @@ use Rattle.object_plan.specs.Shifts.{numbers}
 use Rattle.object_plan.specs.Ready.{ObjectReady, PartReady}
 use Rattle.object_plan.proofs.Ready.{object-entries, object-raw}
 use Rattle.object_plan.proofs.Sound.{part-inside}
-use Rattle.object_plan.proofs.Turns.{entries-start, entries-turn, entries-end, tables_start, tables-turn, tables_end}
+use Rattle.object_plan.proofs.Turns.{entries-turn, entries-end, tables_start, tables-turn, tables_end}
 use Rattle.object_apply.proofs.Amounts.{same}
+use Rattle.std.specs.Prelude.{Ok}
 
 -- ---- one entry of a section that is accepted
 
 module _ (file : List ℕ) (t : Tables) (s : ObjectSection) (r : PartReady file t s) (i : ℕ) (l : i < s.count) where
-  pub own : own_at file t s i ≡ Accepted
+  pub own : own_at file t s i ≡ Ok tt
   own = own-accepted file t s r.good i l
 
   -- its field is in the section's bytes
@@ -55,9 +55,6 @@ module _ (file : List ℕ) (t : Tables) (s : ObjectSection) (r : PartReady file 
 -- ---- the entries of a section
 
 module _ (file : List ℕ) (t : Tables) (s : ObjectSection) (sh : Shifts) (n : ℕ) where
-  pub all_start : (x : List ℕ) → apply_all (entries_from file t s 0 (n - 0)) sh x ≡ apply_all (entries_from file t s 0 n) sh x
-  all_start x = rw (entries-start file t s n) refl
-
   pub all-turn : (i : ℕ) (x : List ℕ) {y : List ℕ} → i < n → y ≡ add_to (object_entry file t s i).field (amount_of (object_entry file t s i) sh) x
       → apply_all (entries_from file t s (i + 1) (n - (i + 1))) sh y ≡ apply_all (entries_from file t s i (n - i)) sh x
   unfolding apply_all

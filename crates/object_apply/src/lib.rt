@@ -75,11 +75,8 @@ fn apply_table(
     requires to_len { (length to.now ≡ numbers) × (length from.now ≡ numbers) × (s.place + s.size ≤ length buffer.old) }
     ensures { buffer.new ≡ apply_all (table_entries file.now t s) (address_shifts to.now from.now) buffer.old }
 {
-    let n = s.count;
-    let mut i: u64 = 0;
-    while i < n {
+    for i in 0..s.count {
         apply_entry(file, t, s, i, to, from, buffer);
-        i += 1;
     }
 }
 
@@ -96,16 +93,13 @@ pub fn apply_entries(
     requires to_len { (length to.now ≡ numbers) × (length from.now ≡ numbers) × (length buffer.old ≡ length (object_of file.now).raw) }
     ensures { buffer.new ≡ apply_all (object_of file.now).entries (address_shifts to.now from.now) buffer.old }
 {
-    let n = y.count;
     let len = file.len() as u64;
     let mut place: u64 = 0;
     let mut first: u64 = 0;
-    let mut k: u64 = 0;
-    while k < n {
+    for k in 0..y.count {
         let s = object::part_of(y, len, k, place, first);
         apply_table(file, t, s, to, from, buffer);
         place += s.size;
         first += s.count;
-        k += 1;
     }
 }

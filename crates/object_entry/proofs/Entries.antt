@@ -7,13 +7,10 @@ use native.Mathlib.Decide.{ℕ_discrete, dec_lt}
 use native.Mathlib.Omega.{arith}
 use borrow.Author.Tests.{leb-true, not-false}
 use Rattle.word.proofs.Test.{and_first, and_second}
-use Rattle.refusal.specs.declared.Verdict.TheVariants.{Accepted, Refused}
 use Rattle.refusal.specs.declared.Refusal.TheVariants.{SectionLrel, Scnum}
 use Rattle.refusal.proofs.Order.{accepted-test}
 use Rattle.symbol.specs.declared.Tables.{Tables}
 use Rattle.symbol.specs.declared.Symbol.{Symbol}
-use Rattle.symbol.specs.declared.SymbolAnswer.{SymbolAnswer}
-use Rattle.symbol.specs.declared.SymbolAnswer.TheVariants as answer
 use Rattle.symbol.specs.Entry.{entry_of}
 use Rattle.symbol.specs.Symbol.{section_in, is_section, scnum_check, symbol_in}
 use Rattle.symbol.proofs.Sections.{section-positive, named_none, named-section, named-debug, named-absolute}
@@ -22,20 +19,22 @@ use Rattle.section_relocation.specs.declared.ObjectSection.{ObjectSection}
 use Rattle.section_relocation.specs.declared.SectionEntry.{SectionEntry}
 use Rattle.section_relocation.specs.Entry.{entry_in, is_held, field_in, name_of}
 use Rattle.object_entry.specs.Entry.{is_read, is_good, own_at, section_moved, symbol_moves, applied, object_entry}
+use Rattle.std.specs.Prelude.{Err, Ok, Result}
+use Rattle.refusal.specs.declared.Refusal.{Refusal}
 
 -- ---- LREL
 
 module _ (file : List ℕ) (t : Tables) (s : ObjectSection) (i : ℕ) {e : SectionEntry} (p : e ≡ entry_in file t.format s i) where
-  pub own-unheld : {b : Bool} → b ≡ is_held t.format s e → b ≡ false → Refused (SectionLrel (name_of s i)) ≡ own_at file t s i
+  pub own-unheld : {b : Bool} → b ≡ is_held t.format s e → b ≡ false → Err (SectionLrel (name_of s i)) ≡ own_at file t s i
   unfolding own_at is_good
   own-unheld q h = rw (← p) (rw (← q) (rw h refl))
 
-  pub own-by : {b c : Bool} {a : SymbolAnswer} → b ≡ is_held t.format s e → b ≡ true → a ≡ symbol_in file t e.symbol → c ≡ is_read a → c ≡ false
-      → Refused (SectionLrel (name_of s i)) ≡ own_at file t s i
+  pub own-by : {b c : Bool} {a : Result Symbol Refusal} → b ≡ is_held t.format s e → b ≡ true → a ≡ symbol_in file t e.symbol → c ≡ is_read a → c ≡ false
+      → Err (SectionLrel (name_of s i)) ≡ own_at file t s i
   unfolding own_at is_good
   own-by q h r k l = rw (← p) (rw (← q) (rw (h, ← r) (rw (← k) (rw l refl))))
 
-  pub own-good : {b c : Bool} {a : SymbolAnswer} → b ≡ is_held t.format s e → b ≡ true → a ≡ symbol_in file t e.symbol → c ≡ is_read a → c ≡ true → Accepted ≡ own_at file t s i
+  pub own-good : {b c : Bool} {a : Result Symbol Refusal} → b ≡ is_held t.format s e → b ≡ true → a ≡ symbol_in file t e.symbol → c ≡ is_read a → c ≡ true → (Ok tt) ≡ own_at file t s i
   unfolding own_at is_good
   own-good q h r k l = rw (← p) (rw (← q) (rw (h, ← r) (rw (← k) (rw l refl))))
 
@@ -70,11 +69,11 @@ moved-few nscns n g = by (dec_lt n 0x8000)
 
 -- ---- an entry that LREL accepts
 
-read_found : (a : SymbolAnswer) → is_read a ≡ true → (s : Symbol) × (a ≡ answer.Found s)
-read_found (answer.Found s) h = (s, refl)
-read_found (answer.Refused x) h = absurd (let z : ◌≡◌ {A = ℕ} 0 1 = cc in omega arith)
+read_found : (a : Result Symbol Refusal) → is_read a ≡ true → (s : Symbol) × (a ≡ Ok s)
+read_found (Ok s) h = (s, refl)
+read_found (Err x) h = absurd (let z : ◌≡◌ {A = ℕ} 0 1 = cc in omega arith)
 
-module _ (file : List ℕ) (t : Tables) (s : ObjectSection) (i : ℕ) (h : own_at file t s i ≡ Accepted) where
+module _ (file : List ℕ) (t : Tables) (s : ObjectSection) (i : ℕ) (h : own_at file t s i ≡ Ok tt) where
   abbrev entry : SectionEntry
   entry = entry_in file t.format s i
 
@@ -94,7 +93,7 @@ module _ (file : List ℕ) (t : Tables) (s : ObjectSection) (i : ℕ) (h : own_a
       from : is_good file t s entry ≡ true → is_read (symbol_in file t entry.symbol) ≡ true
       from g = unfold is_good in and_second (is_held t.format s entry) _ g
 
-  symbol-read : (x : Symbol) × (symbol_in file t entry.symbol ≡ answer.Found x)
+  symbol-read : (x : Symbol) × (symbol_in file t entry.symbol ≡ Ok x)
   symbol-read = read_found (symbol_in file t entry.symbol) read
 
   -- its symbol is in the table

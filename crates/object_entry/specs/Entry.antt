@@ -1,12 +1,9 @@
 -- Entries of an object file: LREL, and each as it is applied.
-use Rattle.std.specs.Prelude.{ℕ, Bool, true, false, not, ◌&&◌, List}
+use Rattle.std.specs.Prelude.{ℕ, Bool, true, false, not, ◌&&◌, List, Err, Ok, Result}
 use Rattle.format.specs.declared.SymbolIndex.{SymbolIndex}
 use Rattle.refusal.specs.declared.Refusal.TheVariants.{SectionLrel}
-use Rattle.refusal.specs.declared.Verdict.{Verdict}
 use Rattle.refusal.specs.Order.{refuse_if}
 use Rattle.symbol.specs.declared.Tables.{Tables}
-use Rattle.symbol.specs.declared.SymbolAnswer.{SymbolAnswer}
-use Rattle.symbol.specs.declared.SymbolAnswer.TheVariants as answer
 use Rattle.symbol.specs.declared.SymbolSection.{SymbolSection}
 use Rattle.symbol.specs.declared.SymbolSection.TheVariants.{Debug, Absolute, Undefined, In}
 use Rattle.symbol.specs.Entry.{entry_of}
@@ -15,11 +12,14 @@ use Rattle.section_relocation.specs.declared.ObjectSection.{ObjectSection}
 use Rattle.section_relocation.specs.declared.SectionEntry.{SectionEntry}
 use Rattle.section_relocation.specs.Entry.{entry_in, effect_of, effect_or, is_held, field_of, name_of}
 use Rattle.object_history.specs.declared.ObjectEntry.{ObjectEntry}
+use Rattle.refusal.specs.declared.Refusal.{Refusal}
+use Rattle.symbol.specs.declared.Symbol.{Symbol}
+use Rattle.refusal.specs.Verdict.{Verdict}
 
 -- a symbol that reads: INDEX, AUX, SECTION, NAME and VISIBILITY accept it
-abbrev pub is_read : SymbolAnswer → Bool
-is_read (answer.Found s) = true
-is_read (answer.Refused x) = false
+abbrev pub is_read : Result Symbol Refusal → Bool
+is_read (Ok s) = true
+is_read (Err x) = false
 
 -- LREL, where not: an entry that is known, its field inside the section, and its symbol
 unfoldable pub is_good : List ℕ → Tables → ObjectSection → SectionEntry → Bool

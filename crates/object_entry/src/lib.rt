@@ -9,35 +9,35 @@ ghost use Rattle.object_entry.specs.Entry.{is_read, section_moved, symbol_moves,
 
 use format::SymbolIndex;
 use object_history::ObjectEntry;
-use refusal::{Refusal, Verdict};
+use refusal::Refusal;
 use section_relocation::ObjectSection;
-use symbol::{SymbolAnswer, Tables};
+use symbol::{Symbol, Tables};
 
-fn is_read(a: SymbolAnswer) -> bool
+fn is_read(a: Result<Symbol, Refusal>) -> bool
     ensures { result ≡ is_read a }
 {
     match a {
-        SymbolAnswer::Found(_) => true,
-        SymbolAnswer::Refused(_) => false,
+        Ok(_) => true,
+        Err(_) => false,
     }
 }
 
 // LREL of entry `i`: its type, its width, its field and its symbol.
-pub fn check_own(file: &[u8], t: Tables, s: ObjectSection, i: u64) -> Verdict
+pub fn check_own(file: &[u8], t: Tables, s: ObjectSection, i: u64) -> Result<(), Refusal>
     requires { OpenTables file.now t × TableReady file.now t.format s × (i < s.count) }
     ensures { result ≡ own_at file.now t s i }
 {
     let f = t.format;
     let e = section_relocation::entry_in(file, f, s, i);
     if !section_relocation::is_held(f, s, e) {
-        return Verdict::Refused(Refusal::SectionLrel(section_relocation::name_of(s, i)));
+        return Err(Refusal::SectionLrel(section_relocation::name_of(s, i)));
     }
     let index = e.symbol;
     let a = symbol::symbol_in(file, t, index);
     if is_read(a) {
-        return Verdict::Accepted;
+        return Ok(());
     }
-    Verdict::Refused(Refusal::SectionLrel(section_relocation::name_of(s, i)))
+    Err(Refusal::SectionLrel(section_relocation::name_of(s, i)))
 }
 
 // The number of the section that a symbol with `n_scnum` is in, 0 where it is in none.
@@ -60,7 +60,7 @@ fn symbol_moves(file: &[u8], t: Tables, i: SymbolIndex) -> u64
 
 // Entry `i`, which is good by itself, as it is applied.
 pub fn entry_at(file: &[u8], t: Tables, s: ObjectSection, i: u64) -> ObjectEntry
-    requires { OpenTables file.now t × TableReady file.now t.format s × (i < s.count) × (own_at file.now t s i ≡ Verdict.Accepted) }
+    requires { OpenTables file.now t × TableReady file.now t.format s × (i < s.count) × (own_at file.now t s i ≡ Ok tt) }
     ensures { result ≡ object_entry file.now t s i }
 {
     let f = t.format;

@@ -5,12 +5,10 @@ use mathlib.Core.Bool.{Bool, true, false, cond}
 use mathlib.Core.List.{List, [], ◌∷◌, ◌++◌}
 use Prim.Native.Nat.{ℕ, zero, suc, ◌+◌, ◌/◌, ◌%◌, ◌≤◌, ◌<◌}
 use lib.ListN.{length, get_or}
-use lib.IntN.{ℤ, pos, ◌+ℤ◌, ◌-ℤ◌, +ℤ_invr}
+use lib.IntN.{pos, ◌+ℤ◌, ◌-ℤ◌, +ℤ_invr}
 use Rattle.word.specs.Number.{field_at}
 use Rattle.update.specs.Update.{Bytes}
 use Rattle.refusal.specs.declared.Refusal.{Refusal}
-use Rattle.refusal.specs.declared.Verdict.{Verdict}
-use Rattle.refusal.specs.declared.Verdict.TheVariants.{Accepted, Refused}
 use Rattle.refusal.specs.Order.{◌or_else◌}
 use Rattle.book.specs.Machine.{Shifts, unshifted, sum}
 use Rattle.book.specs.Machine as machine
@@ -27,6 +25,8 @@ use Rattle.object_history.specs.Call.{Call, build, move, room_check, range_check
 use Rattle.object_history.proofs.Entry.{apply_all-add, apply_all-length, apply_all-zero, apply_all-outside}
 use Rattle.object_history.proofs.Range.{Kept, all-kept, each_two, range-after, range-zero}
 use Rattle.object_history.proofs.Demand3.{build-parts, move-parts, accepted-length, inside-length, object-lawful}
+use Rattle.std.specs.Prelude.{Err, Ok}
+use Rattle.refusal.specs.Verdict.{Verdict}
 
 -- what holds of each by one law holds of all
 all_map : {P Q : ObjectEntry → Type 0} → ((e : ObjectEntry) → P e → Q e) → (es : List ObjectEntry) → All P es → All Q es
@@ -34,7 +34,7 @@ all_map h [] a = tt
 all_map h (e ∷ es) a = (h e a.0, all_map h es a.1)
 
 -- demand 1: "A refusal changes no byte of any buffer I lend."
-pub refused-nothing : (o : Object) (c : Call) (x : List ℕ) (r : Refusal) → call_check o (length x) x c ≡ Refused r → effect o c x ≡ x
+pub refused-nothing : (o : Object) (c : Call) (x : List ℕ) (r : Refusal) → call_check o (length x) x c ≡ Err r → effect o c x ≡ x
 unfolding effect
 refused-nothing o c x r e = calls.refused-nothing (machine_of o) c x r e
 
@@ -70,7 +70,7 @@ start-length : (o : Object) (c : Call) (x : List ℕ) → Accepts o x c → leng
 start-length o (build p) x e = refl
 start-length o (move p q) x e = accepted-length o x (move p q) e
 
-start-range : (o : Object) (c : Call) (x : List ℕ) → Accepts o x c → range_check o (shifts_of o c) (start_of o c x) ≡ Accepted
+start-range : (o : Object) (c : Call) (x : List ℕ) → Accepts o x c → range_check o (shifts_of o c) (start_of o c x) ≡ Ok tt
 start-range o (build p) x e = (build-parts o (length x) x p e).range
 start-range o (move p q) x e = (move-parts o (length x) x p q e).range
 
@@ -78,7 +78,7 @@ start-range o (move p q) x e = (move-parts o (length x) x p q e).range
 
 module _ (o : Object) (sound : Sound o) where
   -- every branch word is kept where RANGE accepts
-  branches-kept : (s : Shifts) (x : List ℕ) → length x ≡ length o.raw → range_check o s x ≡ Accepted
+  branches-kept : (s : Shifts) (x : List ℕ) → length x ≡ length o.raw → range_check o s x ≡ Ok tt
       → All (λ e. is_branch e.field.kind ≡ true → Kept o.entries s x e) o.entries
   unfolding range_check
   branches-kept s x l h =
@@ -86,7 +86,7 @@ module _ (o : Object) (sound : Sound o) where
       (inside-length o.entries o.raw x (sym l) sound.inside) h
 
   -- RANGE by t of what an accepted s left is RANGE by s + t of what was there
-  pub range-sum : (s t : Shifts) (x : List ℕ) → length x ≡ length o.raw → range_check o s x ≡ Accepted
+  pub range-sum : (s t : Shifts) (x : List ℕ) → length x ≡ length o.raw → range_check o s x ≡ Ok tt
       → range_check o t (apply_all o.entries s x) ≡ range_check o (sum s t) x
   range-sum s t x l h = ranges (branches-kept s x l h)
     where
@@ -134,11 +134,11 @@ module _ (o : Object) (sound : Sound o) where
   -- ---- after an accepted build for p, a move from p to q is answered as a build for q would be
 
   -- the order of a move's checks where those of the from plan accept
-  order-after : {f l g : Verdict} (l' g' : Verdict) {r r' s s' : Verdict} → f ≡ Accepted → l ≡ Accepted → g ≡ Accepted → r ≡ r' → s ≡ s'
+  order-after : {f l g : Verdict} (l' g' : Verdict) {r r' s s' : Verdict} → f ≡ Ok tt → l ≡ Ok tt → g ≡ Ok tt → r ≡ r' → s ≡ s'
       → (f or_else l or_else l' or_else g or_else g' or_else r or_else s) ≡ (f or_else l' or_else g' or_else r' or_else s')
   order-after l' g' a b c d e = rw (a, b, c, d, e) refl
 
-  range-reached : (p q : Plan) → range_check o (displacements o p) o.raw ≡ Accepted
+  range-reached : (p q : Plan) → range_check o (displacements o p) o.raw ≡ Ok tt
       → range_check o (differences o p q) (built_image o p) ≡ range_check o (displacements o q) o.raw
   unfolding built_image differences
   range-reached p q h =
@@ -190,12 +190,12 @@ module _ (o : Object) (sound : Sound o) where
       let d = move-parts o (length (built_image o p)) (built_image o p) g q b in
       accept-five c.file-accepted d.to-listed d.to-fits c.room (sym (ranged c.range) ∙ d.range))
     where
-      ranged : range_check o (displacements o p) o.raw ≡ Accepted → range_check o (differences o g q) (built_image o p) ≡ range_check o (displacements o q) o.raw
+      ranged : range_check o (displacements o p) o.raw ≡ Ok tt → range_check o (differences o g q) (built_image o p) ≡ range_check o (displacements o q) o.raw
       ranged h = unfold built_image differences in
           (range-sum (displacements o p) (differences o g q) o.raw refl h
           ∙ ap (λ (d : Shifts). range_check o d o.raw) (ap (λ (d : Shifts). sum d (differences o g q)) (sym s) ∙ chains.differences-reach (machine_of o) g q))
 
-      accept-five : {u v w y z : Verdict} → u ≡ Accepted → v ≡ Accepted → w ≡ Accepted → y ≡ Accepted → z ≡ Accepted → (u or_else v or_else w or_else y or_else z) ≡ Accepted
+      accept-five : {u v w y z : Verdict} → u ≡ Ok tt → v ≡ Ok tt → w ≡ Ok tt → y ≡ Ok tt → z ≡ Ok tt → (u or_else v or_else w or_else y or_else z) ≡ Ok tt
       accept-five a b c d e = rw (a, b, c, d) e
 
   chain-accepted : (x y : List ℕ) (p : Plan) (cs : List Call) (r : Plan) → machine.Chain (machine_of o) y p cs r → y ≡ built_image o p → Accepts o x (build p) → Accepts o x (build r)
@@ -247,18 +247,18 @@ module _ (o : Object) (sound : Sound o) where
           apply_all-add es (differences o p q) (differences o q p) x inside sound.pairwise
           ∙ ap (λ (s : Shifts). apply_all es s x) (chains.differences-back (machine_of o) p q) ∙ apply_all-zero es x h inside
 
-      ranged : range_check o (differences o q p) y ≡ Accepted
+      ranged : range_check o (differences o q p) y ≡ Ok tt
       ranged =
           ap (range_check o (differences o q p)) (effect-start o (move p q) x e)
           ∙ range-sum (differences o p q) (differences o q p) x lengths (move-parts o (length x) x p q e).range
           ∙ ap (λ (s : Shifts). range_check o s x) (chains.differences-back (machine_of o) p q)
           ∙ (unfold range_check in range-zero es x es)
 
-      all-accept : {a b c d f g h : Verdict} → a ≡ Accepted → b ≡ Accepted → c ≡ Accepted → d ≡ Accepted → f ≡ Accepted → g ≡ Accepted → h ≡ Accepted
-          → (a or_else b or_else c or_else d or_else f or_else g or_else h) ≡ Accepted
+      all-accept : {a b c d f g h : Verdict} → a ≡ Ok tt → b ≡ Ok tt → c ≡ Ok tt → d ≡ Ok tt → f ≡ Ok tt → g ≡ Ok tt → h ≡ Ok tt
+          → (a or_else b or_else c or_else d or_else f or_else g or_else h) ≡ Ok tt
       all-accept a b c d f g h = rw (a, b, c, d, f, g) h
 
-      same-room : room_check o (length y) ≡ Accepted
+      same-room : room_check o (length y) ≡ Ok tt
       same-room =
           ap (room_check o) (ap length (effect-start o (move p q) x e) ∙ apply_all-length es (differences o p q) x) ∙ (move-parts o (length x) x p q e).room
 
@@ -272,10 +272,10 @@ module _ (o : Object) (sound : Sound o) where
   move_same x h p q s = by-verdict (call_check o (length x) x (move p q)) refl
     where
       by-verdict : (v : Verdict) → call_check o (length x) x (move p q) ≡ v → effect o (move p q) x ≡ x
-      by-verdict Accepted e =
+      by-verdict (Ok tt) e =
           effect-start o (move p q) x e ∙ ap (λ (d : Shifts). apply_all o.entries d x) (same-differences o p q s)
           ∙ apply_all-zero o.entries x h (inside-length o.entries o.raw x (sym (accepted-length o x (move p q) e)) sound.inside)
-      by-verdict (Refused r) e = refused-nothing o (move p q) x r e
+      by-verdict (Err r) e = refused-nothing o (move p q) x r e
 
   -- "No move changes a byte outside the fields"
   pub move-outside : (p q : Plan) (x : List ℕ) (k : ℕ) → All (λ e. (k < e.field.offset) ⊎ (e.field.offset + bytes_in e.field.kind ≤ k)) o.entries
@@ -283,6 +283,6 @@ module _ (o : Object) (sound : Sound o) where
   move-outside p q x k h = by-verdict (call_check o (length x) x (move p q)) refl
     where
       by-verdict : (v : Verdict) → call_check o (length x) x (move p q) ≡ v → get_or (effect o (move p q) x) k 0 ≡ get_or x k 0
-      by-verdict Accepted e =
+      by-verdict (Ok tt) e =
           ap (λ (y : List ℕ). get_or y k 0) (effect-start o (move p q) x e) ∙ apply_all-outside k o.entries (differences o p q) x h
-      by-verdict (Refused r) e = ap (λ (y : List ℕ). get_or y k 0) (refused-nothing o (move p q) x r e)
+      by-verdict (Err r) e = ap (λ (y : List ℕ). get_or y k 0) (refused-nothing o (move p q) x r e)

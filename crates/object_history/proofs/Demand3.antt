@@ -5,7 +5,6 @@ use Prim.Native.Nat.{ℕ}
 use lib.ListN.{length}
 use Rattle.refusal.specs.declared.RoomItem.TheVariants.{ObjectBuffer}
 use Rattle.refusal.specs.declared.Refusal.TheVariants as refusal
-use Rattle.refusal.specs.declared.Verdict.TheVariants.{Accepted}
 use Rattle.refusal.proofs.Order.{accepted-first, accepted-rest, accepted-equal}
 use Rattle.book.specs.Entries.{All}
 use Rattle.book.proofs.Book.{Lawful}
@@ -16,17 +15,18 @@ use Rattle.object_history.specs.Object.{Object, Plan, Sound, displacements, diff
 use Rattle.object_history.specs.Call.{Call, build, move, room_check, range_check, call_check, machine_of, Accepts, run}
 use Rattle.object_history.specs.Book.{book_after, book_images}
 use Rattle.object_history.proofs.Entry.{apply_all-add, apply_all-length}
+use Rattle.std.specs.Prelude.{Ok}
 
 -- ---- an accepted call passed each of its checks
 
 pub record BuildAccepted (o : Object) (len : ℕ) (p : Plan) : Type 0 where
-  pub file-accepted : o.verdict ≡ Accepted
-  pub plan-listed : list_check o p ≡ Accepted
-  pub plan-fits : fit_check o p ≡ Accepted
-  pub room : room_check o len ≡ Accepted
-  pub range : range_check o (displacements o p) o.raw ≡ Accepted
+  pub file-accepted : o.verdict ≡ Ok tt
+  pub plan-listed : list_check o p ≡ Ok tt
+  pub plan-fits : fit_check o p ≡ Ok tt
+  pub room : room_check o len ≡ Ok tt
+  pub range : range_check o (displacements o p) o.raw ≡ Ok tt
 
-pub build-parts : (o : Object) (len : ℕ) (x : List ℕ) (p : Plan) → call_check o len x (build p) ≡ Accepted → BuildAccepted o len p
+pub build-parts : (o : Object) (len : ℕ) (x : List ℕ) (p : Plan) → call_check o len x (build p) ≡ Ok tt → BuildAccepted o len p
 unfolding call_check
 build-parts o len x p e =
     let a = accepted-rest o.verdict _ e in
@@ -41,15 +41,15 @@ build-parts o len x p e =
     }
 
 pub record MoveAccepted (o : Object) (len : ℕ) (x : List ℕ) (p q : Plan) : Type 0 where
-  pub file-accepted : o.verdict ≡ Accepted
-  pub from-listed : list_check o p ≡ Accepted
-  pub to-listed : list_check o q ≡ Accepted
-  pub from-fits : fit_check o p ≡ Accepted
-  pub to-fits : fit_check o q ≡ Accepted
-  pub room : room_check o len ≡ Accepted
-  pub range : range_check o (differences o p q) x ≡ Accepted
+  pub file-accepted : o.verdict ≡ Ok tt
+  pub from-listed : list_check o p ≡ Ok tt
+  pub to-listed : list_check o q ≡ Ok tt
+  pub from-fits : fit_check o p ≡ Ok tt
+  pub to-fits : fit_check o q ≡ Ok tt
+  pub room : room_check o len ≡ Ok tt
+  pub range : range_check o (differences o p q) x ≡ Ok tt
 
-pub move-parts : (o : Object) (len : ℕ) (x : List ℕ) (p q : Plan) → call_check o len x (move p q) ≡ Accepted → MoveAccepted o len x p q
+pub move-parts : (o : Object) (len : ℕ) (x : List ℕ) (p q : Plan) → call_check o len x (move p q) ≡ Ok tt → MoveAccepted o len x p q
 unfolding call_check
 move-parts o len x p q e =
     let a = accepted-rest o.verdict _ e in
@@ -68,7 +68,7 @@ move-parts o len x p q e =
     }
 
 -- ROOM 0: the buffer of an accepted call is as long as the raw bytes
-room-accepted : (o : Object) (len : ℕ) (x : List ℕ) (c : Call) → call_check o len x c ≡ Accepted → room_check o len ≡ Accepted
+room-accepted : (o : Object) (len : ℕ) (x : List ℕ) (c : Call) → call_check o len x c ≡ Ok tt → room_check o len ≡ Ok tt
 room-accepted o len x (build p) e = (build-parts o len x p e).room
 room-accepted o len x (move p q) e = (move-parts o len x p q e).room
 

@@ -12,8 +12,6 @@ use lib.IntN.{ℤ, pos, ◌+ℤ◌, +ℤ_assoc, +ℤ_comm, +ℤ_idr, +ℤ_idl}
 use borrow.Author.Tests.{eq-eqb, ne_eqb, not-false}
 use Rattle.word.specs.Number.{field_at}
 use Rattle.refusal.specs.declared.Refusal.TheVariants as refusal
-use Rattle.refusal.specs.declared.Verdict.{Verdict}
-use Rattle.refusal.specs.declared.Verdict.TheVariants.{Accepted}
 use Rattle.refusal.specs.Order.{◌or_else◌, refuse_if}
 use Rattle.refusal.proofs.Order.{accepted-first, accepted-rest, accepted-test}
 use Rattle.update.specs.Update.{update, remainder, Apart}
@@ -32,6 +30,8 @@ use Rattle.object_history.specs.declared.ObjectEntry.{ObjectEntry}
 use Rattle.object_history.specs.Entry.{amount_of, apply_all, Inside, Compatible}
 use Rattle.object_history.specs.Range.{is_branch, is_on, amounts_on, branch_sum, out_of_range, range_from}
 use Rattle.object_history.proofs.Entry.{amount-add, amount-zero}
+use Rattle.std.specs.Prelude.{Ok}
+use Rattle.refusal.specs.Verdict.{Verdict}
 
 -- ---- a branch word after all entries
 
@@ -186,7 +186,7 @@ module _ (es : List ObjectEntry) (s : Shifts) (x : List ℕ) where
 
   -- so are all that RANGE accepts
   pub all-kept : (ds : List ObjectEntry) → All (λ e. All (Compatible e) es) ds → All (Inside x) ds
-      → range_from es s x ds ≡ Accepted → All (λ e. is_branch e.field.kind ≡ true → Kept e) ds
+      → range_from es s x ds ≡ Ok tt → All (λ e. is_branch e.field.kind ≡ true → Kept e) ds
   unfolding range_from
   all-kept [] c n h = tt
   all-kept (e ∷ ds) c n h = (
@@ -235,7 +235,7 @@ amounts-zero off (e ∷ es) =
     by-test false = refl
 
 -- so RANGE accepts shifts of 0 of any bytes
-pub range-zero : (es : List ObjectEntry) (x : List ℕ) (ds : List ObjectEntry) → range_from es unshifted x ds ≡ Accepted
+pub range-zero : (es : List ObjectEntry) (x : List ℕ) (ds : List ObjectEntry) → range_from es unshifted x ds ≡ Ok tt
 unfolding range_from out_of_range branch_sum
 range-zero es x [] = refl
 range-zero es x (e ∷ ds) =
@@ -245,6 +245,6 @@ range-zero es x (e ∷ ds) =
     ap in_range (ap (λ (z : ℤ). v +ℤ z) (amounts-zero off es) ∙ +ℤ_idr v) ∙ value-in-range (field_at 4 off x) in
     by-test (is_branch e.field.kind) r (range-zero es x ds)
   where
-    by-test : (b : Bool) {t : Bool} → t ≡ true → {w : Verdict} → w ≡ Accepted → (refuse_if (b && not t) (refusal.Range e.name) or_else w) ≡ Accepted
+    by-test : (b : Bool) {t : Bool} → t ≡ true → {w : Verdict} → w ≡ Ok tt → (refuse_if (b && not t) (refusal.Range e.name) or_else w) ≡ Ok tt
     by-test true q h = rw (q, h) refl
     by-test false q h = h

@@ -2,10 +2,10 @@
 use mathlib.Core.Path.{◌≡◌}
 use mathlib.Core.Bool.{Bool, true, false, cond}
 use mathlib.Core.List.{List, [], ◌∷◌}
-use Prim.Native.Nat.{ℕ, suc, ◌+◌, ◌*◌, ◌^◌, ◌≤◌, ◌<◌}
+use Prim.Native.Nat.{ℕ, ◌+◌, ◌*◌, ◌^◌, ◌≤◌, ◌<◌}
 use native.Mathlib.Omega.{arith}
 use lib.ListN.{length}
-use lib.IntN.{ℤ, pos, neg_ℤ, nat_abs, ◌+ℤ◌}
+use lib.IntN.{pos, neg_ℤ, nat_abs}
 use Rattle.word.specs.Number.{field_at}
 use Rattle.book.specs.Machine.{Shifts}
 use Rattle.branch.specs.Branch.{branch_value, in_range, wide, wide_in_range}

@@ -1,9 +1,7 @@
 -- Builds and moves of an object file: what a call is refused for, and what it leaves in the buffer.
-use Rattle.std.specs.Prelude.{◌≡◌, not, List, ℕ, eqb, length}
+use Rattle.std.specs.Prelude.{◌≡◌, not, List, ℕ, eqb, length, Ok}
 use Rattle.refusal.specs.declared.RoomItem.TheVariants.{ObjectBuffer}
 use Rattle.refusal.specs.declared.Refusal.TheVariants as refusal
-use Rattle.refusal.specs.declared.Verdict.{Verdict}
-use Rattle.refusal.specs.declared.Verdict.TheVariants.{Accepted}
 use Rattle.refusal.specs.Order.{◌or_else◌, refuse_if}
 pub use Rattle.book.specs.Machine.Call.{build, move}
 use Rattle.book.specs.Machine.{Shifts, Machine}
@@ -11,6 +9,7 @@ use Rattle.book.specs.Machine as machine
 use Rattle.object_history.specs.Entry.{apply_all}
 use Rattle.object_history.specs.Range.{range_from}
 use Rattle.object_history.specs.Object.{Object, Plan, displacements, differences, list_check, fit_check}
+use Rattle.refusal.specs.Verdict.{Verdict}
 
 -- a build for a plan, or a move from a plan to another
 abbrev pub Call : Type 0
@@ -38,7 +37,7 @@ machine_of o = record { raw = o.raw; displacements = displacements o; apply = ap
 
 -- a call is accepted on a buffer
 abbrev pub Accepts : Object → List ℕ → Call → Type 0
-Accepts o x c = call_check o (length x) x c ≡ Accepted
+Accepts o x c = call_check o (length x) x c ≡ Ok tt
 
 -- what a call leaves in the buffer: a refusal changes nothing
 unfoldable pub effect : Object → Call → List ℕ → List ℕ

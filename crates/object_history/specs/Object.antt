@@ -3,12 +3,12 @@ use Rattle.std.specs.Prelude.{◌≡◌, Bool, not, cond, true, false, ◌&&◌,
 use Rattle.refusal.specs.declared.RoomItem.TheVariants.{AddressList}
 use Rattle.refusal.specs.declared.PlanItem.TheVariants.{SectionAddress}
 use Rattle.refusal.specs.declared.Refusal.TheVariants as refusal
-use Rattle.refusal.specs.declared.Verdict.{Verdict}
 use Rattle.refusal.specs.Order.{refuse_if, first_of}
 use Rattle.book.specs.Machine.{Shifts, difference}
 use Rattle.book.specs.Entries.{All, Pairwise}
 use Rattle.object_history.specs.declared.ObjectEntry.{ObjectEntry}
 use Rattle.object_history.specs.Entry.{apply_all, Inside, Compatible}
+use Rattle.refusal.specs.Verdict.{Verdict}
 
 -- a section: whether it is text, data or bss, which have a place in a plan, its recorded address and its size
 pub record Placed : Type 0 where

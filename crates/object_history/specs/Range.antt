@@ -1,9 +1,7 @@
 -- RANGE: the exact sum of a branch word's value and of all entries on it.
-use Rattle.std.specs.Prelude.{Bool, true, false, cond, not, ◌&&◌, List, [], ◌∷◌, ℕ, eqb, ℤ, pos, ◌+ℤ◌}
+use Rattle.std.specs.Prelude.{Bool, true, false, cond, not, ◌&&◌, List, [], ◌∷◌, ℕ, eqb, ℤ, pos, ◌+ℤ◌, Ok}
 use Rattle.word.specs.Number.{field_at}
 use Rattle.refusal.specs.declared.Refusal.TheVariants as refusal
-use Rattle.refusal.specs.declared.Verdict.{Verdict}
-use Rattle.refusal.specs.declared.Verdict.TheVariants.{Accepted}
 use Rattle.refusal.specs.Order.{◌or_else◌, refuse_if}
 use Rattle.book.specs.Machine.{Shifts}
 use Rattle.field_kind.specs.declared.FieldKind.{FieldKind}
@@ -11,6 +9,7 @@ use Rattle.field_kind.specs.declared.FieldKind.TheVariants.{Nothing, Four, Eight
 use Rattle.branch.specs.Branch.{branch_value, in_range}
 use Rattle.object_history.specs.declared.ObjectEntry.{ObjectEntry}
 use Rattle.object_history.specs.Entry.{amount_of}
+use Rattle.refusal.specs.Verdict.{Verdict}
 
 abbrev pub is_branch : FieldKind → Bool
 is_branch Nothing = false
@@ -38,5 +37,5 @@ out_of_range es s x e = is_branch e.field.kind && not (in_range (branch_sum es s
 module _ (es : List ObjectEntry) (s : Shifts) (x : List ℕ) where
   -- the first such entry of some
   unfoldable pub range_from : List ObjectEntry → Verdict
-  range_from [] = Accepted
+  range_from [] = Ok tt
   range_from (e ∷ ds) = refuse_if (out_of_range es s x e) (refusal.Range e.name) or_else range_from ds

@@ -5,11 +5,9 @@ use mathlib.Core.Bool.{Bool, true, false}
 use mathlib.Core.List.{List}
 use lib.ListN.{length}
 use Rattle.refusal.specs.declared.Refusal.{Refusal}
-use Rattle.refusal.specs.declared.Verdict.{Verdict}
-use Rattle.refusal.specs.declared.Verdict.TheVariants.{Accepted, Refused}
 use Rattle.refusal.specs.Refusal.{is_refused}
-use Rattle.refusal.specs.Order.{◌or_else◌, if_accepted}
-use Rattle.refusal.proofs.Order.{told, told-accepted}
+use Rattle.refusal.specs.Order.{if_accepted}
+use Rattle.refusal.proofs.Order.{told-accepted}
 use Rattle.offset.specs.Report.{report_head}
 use Rattle.header.specs.declared.Opened.{Opened}
 use Rattle.header.specs.declared.Summary.{Summary}
@@ -26,6 +24,8 @@ use Rattle.object_plan.specs.Ready.{ObjectReady}
 use Rattle.object_shifts.specs.Places.{places_of, recorded_of}
 use Rattle.object_shifts.proofs.Places.{built-shifts, moved-shifts}
 use Rattle.object_image.proofs.Checks.{refused-here, accepted-here, plan_check, plans_check, plan-known, plans-known, build-order, move-order}
+use Rattle.std.specs.Prelude.{Err, Ok}
+use Rattle.refusal.specs.Verdict.{Verdict}
 
 module _ (o : Object) (c : Call) (x : List ℕ) where
   -- what a call answers and leaves
@@ -38,17 +38,17 @@ module _ (o : Object) (c : Call) (x : List ℕ) where
   call-refused e h = (e, kept (call_check o (length x) x c) _ (ap is_refused (sym e) ∙ h))
     where
       kept : (v : Verdict) (z : List ℕ) → is_refused v ≡ true → x ≡ if_accepted v z x
-      kept Accepted z h = cc
-      kept (Refused r) z h = refl
+      kept (Ok tt) z h = cc
+      kept (Err r) z h = refl
 
 -- accepted
-pub build-done : (o : Object) (p : Plan) (x z : List ℕ) → call_check o (length x) x (build p) ≡ Accepted → z ≡ apply_all o.entries (displacements o p) o.raw
-    → Answers o (build p) x Accepted z
+pub build-done : (o : Object) (p : Plan) (x z : List ℕ) → call_check o (length x) x (build p) ≡ Ok tt → z ≡ apply_all o.entries (displacements o p) o.raw
+    → Answers o (build p) x (Ok tt) z
 unfolding effect
 build-done o p x z e h = (sym e, rw e h)
 
-pub move-done : (o : Object) (p q : Plan) (x z : List ℕ) → call_check o (length x) x (move p q) ≡ Accepted → z ≡ apply_all o.entries (differences o p q) x
-    → Answers o (move p q) x Accepted z
+pub move-done : (o : Object) (p q : Plan) (x z : List ℕ) → call_check o (length x) x (move p q) ≡ Ok tt → z ≡ apply_all o.entries (differences o p q) x
+    → Answers o (move p q) x (Ok tt) z
 unfolding effect differences
 move-done o p q x z e h = (sym e, rw e h)
 
@@ -80,7 +80,7 @@ module _ (file : List ℕ) (y : Summary) (t : Tables) (r : ObjectReady file y t)
         build-out j = call-refused (object_of file) (build p) x judged (sym i ∙ j)
 
         pub build-written : {z u : List ℕ} → b ≡ false → z ≡ (object_of file).raw → u ≡ apply_all (object_of file).entries (address_shifts to from) z
-            → Answers (object_of file) (build p) x Accepted u
+            → Answers (object_of file) (build p) x (Ok tt) u
         build-written j raw q =
             build-done (object_of file) p x _ (told-accepted judged i j)
             (q ∙ ap₂ (λ (s : Shifts) (l : List ℕ). apply_all (object_of file).entries s l) built raw)
@@ -107,7 +107,7 @@ module _ (file : List ℕ) (y : Summary) (t : Tables) (r : ObjectReady file y t)
         pub move-out : b ≡ true → Answers (object_of file) (move p q) x w x
         move-out j = call-refused (object_of file) (move p q) x move-judged (sym i ∙ j)
 
-        pub move-written : {u : List ℕ} → b ≡ false → u ≡ apply_all (object_of file).entries (address_shifts to from) x → Answers (object_of file) (move p q) x Accepted u
+        pub move-written : {u : List ℕ} → b ≡ false → u ≡ apply_all (object_of file).entries (address_shifts to from) x → Answers (object_of file) (move p q) x (Ok tt) u
         move-written j l =
             move-done (object_of file) p q x _ (told-accepted move-judged i j) (l ∙ ap (λ (s : Shifts). apply_all (object_of file).entries s x) moved)
 
@@ -122,19 +122,19 @@ module _ (file : List ℕ) (c : Call) (x : List ℕ) where
   reported a = (a.0, (ap (report_head file) a.0, a.1))
 
   -- every call of a refused file gives its refusal
-  refused-file : {u : Refusal} → object_check file ≡ Refused u → Refused u ≡ call_check (object_of file) (length x) x c
+  refused-file : {u : Refusal} → object_check file ≡ Err u → Err u ≡ call_check (object_of file) (length x) x c
   refused-file {u} e = sym (by c (whole e))
     where
-      whole : object_check file ≡ Refused u → (object_of file).verdict ≡ Refused u
+      whole : object_check file ≡ Err u → (object_of file).verdict ≡ Err u
       whole e = unfold object_of in e
 
-      by : (c : Call) → (object_of file).verdict ≡ Refused u → call_check (object_of file) (length x) x c ≡ Refused u
+      by : (c : Call) → (object_of file).verdict ≡ Err u → call_check (object_of file) (length x) x c ≡ Err u
       by (build p) e = unfold call_check in rw e refl
       by (move p q) e = unfold call_check in rw e refl
 
   module _ {o : Opened} (e : o ≡ open_of file) {u : Refusal} where
-    pub unopened : o.verdict ≡ Refused u → Reports (Refused u) x
+    pub unopened : o.verdict ≡ Err u → Reports (Err u) x
     unopened h = reported (call-refused (object_of file) c x (refused-file (unfold object_check in (rw (← e) (rw h refl)))) refl)
 
-    pub unaccepted : {w : Verdict} → o.verdict ≡ Accepted → w ≡ object_in file o.summary → w ≡ Refused u → Reports (Refused u) x
+    pub unaccepted : {w : Verdict} → o.verdict ≡ Ok tt → w ≡ object_in file o.summary → w ≡ Err u → Reports (Err u) x
     unaccepted h q k = reported (call-refused (object_of file) c x (refused-file (unfold object_check in (rw (← e) (rw h (sym q ∙ k))))) refl)

@@ -7,11 +7,9 @@ use lib.ListN.{length}
 use borrow.Author.Tests.{eq-eqb, ne_eqb}
 use Rattle.refusal.specs.declared.RoomItem.TheVariants.{ObjectBuffer}
 use Rattle.refusal.specs.declared.Refusal.TheVariants as refusal
-use Rattle.refusal.specs.declared.Verdict.{Verdict}
-use Rattle.refusal.specs.declared.Verdict.TheVariants.{Accepted, Refused}
 use Rattle.refusal.specs.Refusal.{is_refused}
 use Rattle.refusal.specs.Order.{◌or_else◌}
-use Rattle.refusal.proofs.Order.{told, told-accepted, go_on, stop, accepted-first, accepted-rest, accepted-equal}
+use Rattle.refusal.proofs.Order.{told, go_on, stop, accepted-first, accepted-rest, accepted-equal}
 use Rattle.header.specs.declared.Summary.{Summary}
 use Rattle.symbol.specs.declared.Tables.{Tables}
 use Rattle.object.specs.declared.ObjectFile.{ObjectFile}
@@ -24,6 +22,8 @@ use Rattle.object_plan.proofs.Ready.{object-verdict}
 use Rattle.object_raw.proofs.Bytes.{raw-length}
 use Rattle.object_shifts.specs.Places.{planned_by}
 use Rattle.object_shifts.proofs.Fit.{list-accepted, list-check, fit-check}
+use Rattle.std.specs.Prelude.{Err, Ok}
+use Rattle.refusal.specs.Verdict.{Verdict}
 
 -- ---- the first refusal of an order, by what the tests of the verdicts said
 
@@ -37,20 +37,20 @@ accepted-here {a = a} b e h k r = r ∙ sym (go_on a b (told e h k))
 
 -- an order of checks and one more can be read from either end
 or-two : (a b c : Verdict) → ((a or_else b) or_else c) ≡ (a or_else b or_else c)
-or-two Accepted b c = refl
-or-two (Refused x) b c = refl
+or-two (Ok tt) b c = refl
+or-two (Err x) b c = refl
 
 pub or-three : (a b c d : Verdict) → ((a or_else b or_else c) or_else d) ≡ (a or_else b or_else c or_else d)
-or-three Accepted b c d = or-two b c d
-or-three (Refused x) b c d = refl
+or-three (Ok tt) b c d = or-two b c d
+or-three (Err x) b c d = refl
 
 or-four : (a b c d e : Verdict) → ((a or_else b or_else c or_else d) or_else e) ≡ (a or_else b or_else c or_else d or_else e)
-or-four Accepted b c d e = or-three b c d e
-or-four (Refused x) b c d e = refl
+or-four (Ok tt) b c d e = or-three b c d e
+or-four (Err x) b c d e = refl
 
 pub or-five : (a b c d e f : Verdict) → ((a or_else b or_else c or_else d or_else e) or_else f) ≡ (a or_else b or_else c or_else d or_else e or_else f)
-or-five Accepted b c d e f = or-four b c d e f
-or-five (Refused x) b c d e f = refl
+or-five (Ok tt) b c d e f = or-four b c d e f
+or-five (Err x) b c d e f = refl
 
 -- ---- an object file that is accepted
 
@@ -60,11 +60,11 @@ module _ (file : List ℕ) (y : Summary) (t : Tables) (r : ObjectReady file y t)
     measured : m.length ≡ length (object_of file).raw
     measured = ap (λ (f : ObjectFile). f.length) e ∙ (unfold file_of in sym (raw-length file y t r))
 
-    pub room-same : size ≡ m.length → Accepted ≡ room_check (object_of file) size
+    pub room-same : size ≡ m.length → (Ok tt) ≡ room_check (object_of file) size
     unfolding room_check
     room-same h = rw (eq-eqb size (length (object_of file).raw) (h ∙ measured)) refl
 
-    pub room-other : (size ≡ m.length → ⊥) → Refused (refusal.Room ObjectBuffer) ≡ room_check (object_of file) size
+    pub room-other : (size ≡ m.length → ⊥) → Err (refusal.Room ObjectBuffer) ≡ room_check (object_of file) size
     unfolding room_check
     room-other n = rw (ne_eqb size (length (object_of file).raw) (λ h. n (h ∙ sym measured))) refl
 
@@ -76,10 +76,10 @@ module _ (file : List ℕ) (y : Summary) (t : Tables) (r : ObjectReady file y t)
   fit-judged p e = e ∙ fit-check file y t r p
 
   -- what a list and a buffer that pass are
-  pub list-told : (p : Plan) → list_check (object_of file) p ≡ Accepted → length p ≡ y.count
+  pub list-told : (p : Plan) → list_check (object_of file) p ≡ Ok tt → length p ≡ y.count
   list-told p e = list-accepted y p (list-check file y t r p ∙ e)
 
-  room-told : (size : ℕ) → room_check (object_of file) size ≡ Accepted → size ≡ length (object_of file).raw
+  room-told : (size : ℕ) → room_check (object_of file) size ≡ Ok tt → size ≡ length (object_of file).raw
   unfolding room_check
   room-told size e = accepted-equal size (length (object_of file).raw) (refusal.Room ObjectBuffer) e
 
@@ -87,7 +87,7 @@ module _ (file : List ℕ) (y : Summary) (t : Tables) (r : ObjectReady file y t)
   abbrev pub plan_check : Plan → ℕ → Verdict
   plan_check p size = list_check (object_of file) p or_else fit_check (object_of file) p or_else room_check (object_of file) size
 
-  pub plan-known : (p : Plan) (size : ℕ) → plan_check p size ≡ Accepted → (length p ≡ y.count) × (size ≡ length (object_of file).raw)
+  pub plan-known : (p : Plan) (size : ℕ) → plan_check p size ≡ Ok tt → (length p ≡ y.count) × (size ≡ length (object_of file).raw)
   plan-known p size e =
       let a = accepted-rest (list_check (object_of file) p) _ e in
       (list-told p (accepted-first _ _ e), room-told size (accepted-rest (fit_check (object_of file) p) _ a))
@@ -102,7 +102,7 @@ module _ (file : List ℕ) (y : Summary) (t : Tables) (r : ObjectReady file y t)
   plans_check p q size =
       list_check (object_of file) p or_else list_check (object_of file) q or_else fit_check (object_of file) p or_else fit_check (object_of file) q or_else room_check (object_of file) size
 
-  pub plans-known : (p q : Plan) (size : ℕ) → plans_check p q size ≡ Accepted → (length p ≡ y.count) × (length q ≡ y.count) × (size ≡ length (object_of file).raw)
+  pub plans-known : (p q : Plan) (size : ℕ) → plans_check p q size ≡ Ok tt → (length p ≡ y.count) × (length q ≡ y.count) × (size ≡ length (object_of file).raw)
   plans-known p q size e =
       let a = accepted-rest (list_check (object_of file) p) _ e in
       let b = accepted-rest (list_check (object_of file) q) _ a in

@@ -6,7 +6,6 @@ use mathlib.Core.List.{List, [], ◌∷◌, ◌++◌}
 use Prim.Native.Nat.{ℕ, ◌+◌, ◌≤◌, ◌<◌}
 use lib.ListN.{length, get_or}
 use Rattle.refusal.specs.declared.Refusal.{Refusal}
-use Rattle.refusal.specs.declared.Verdict.TheVariants.{Refused}
 use Rattle.field_kind.specs.Field.{bytes_in}
 use Rattle.object_history.specs.Call.{Call, build, move, call_check, Accepts, effect, run, machine_of}
 use Rattle.object_history.specs.Object.{Plan, SamePlan, built_image}
@@ -20,6 +19,7 @@ use Rattle.book.specs.Machine as machine
 use Rattle.book.specs.Entries.{All}
 use Rattle.object_plan.specs.Object.{object_of}
 use Rattle.object_plan.proofs.Sound.{object-sound}
+use Rattle.std.specs.Prelude.{Err}
 
 module _ (file : List ℕ) where
   -- "Demand 3 holds here too, for an object file, its one buffer and the entries above."
@@ -37,7 +37,7 @@ module _ (file : List ℕ) where
   reached-image x before p after r e c = corollaries.reached-images (object_of file) (object-sound file) x before p after r e c
 
   -- demand 1: "A refusal changes no byte of any buffer I lend."
-  pub refused-nothing : (c : Call) (x : List ℕ) (r : Refusal) → call_check (object_of file) (length x) x c ≡ Refused r → effect (object_of file) c x ≡ x
+  pub refused-nothing : (c : Call) (x : List ℕ) (r : Refusal) → call_check (object_of file) (length x) x c ≡ Err r → effect (object_of file) c x ≡ x
   refused-nothing c x r e = corollaries.refused-nothing (object_of file) c x r e
 
   -- each branch word after an accepted call: its signed value is the exact sum of that before and of all entries on the word, and its other six and two bits stay

@@ -12,7 +12,6 @@ use Rattle.refusal.specs.declared.RoomItem.TheVariants.{AddressList, ObjectBuffe
 use Rattle.refusal.specs.declared.SectionRelocation.{SectionRelocation}
 use Rattle.refusal.specs.declared.Refusal.{Refusal}
 use Rattle.refusal.specs.declared.Refusal.TheVariants as refusal
-use Rattle.refusal.specs.declared.Verdict.TheVariants as verdict
 use Rattle.refusal.proofs.Order.{accepted-first, accepted-rest}
 use Rattle.refusal.proofs.Causes.{Causes, cause-if, cause-test, cause-then, cause-first}
 use Rattle.offset.specs.Named.{Named}
@@ -34,6 +33,7 @@ use Rattle.object_history.specs.Object.{Object, Plan, section_of, displacements,
 use Rattle.object_history.specs.Call.{Call, build, move, room_check, range_check, call_check}
 use Rattle.object_plan.specs.Object.{entries_from, table_entries, entries_in, object_of}
 use Rattle.object_plan.proofs.Sound.{all_append}
+use Rattle.std.specs.Prelude.{Ok}
 
 -- ---- of any object, where its own refusal and those of its entries are named
 
@@ -66,8 +66,8 @@ module _ (file : List ℕ) (o : Object) where
   from_named s x es [] a = tt
   from_named s x es (d ∷ ds) a = cause-test P (out_of_range es s x d) (refusal.Range d.name) _ (λ _. a.0) (λ _. from_named s x es ds a.1)
 
-  module _ (v : Causes P o.verdict) (a : o.verdict ≡ verdict.Accepted → All (λ e. P (refusal.Range e.name)) o.entries) where
-    range-check-named : (s : Shifts) (x : List ℕ) → o.verdict ≡ verdict.Accepted → Causes P (range_check o s x)
+  module _ (v : Causes P o.verdict) (a : o.verdict ≡ Ok tt → All (λ e. P (refusal.Range e.name)) o.entries) where
+    range-check-named : (s : Shifts) (x : List ℕ) → o.verdict ≡ Ok tt → Causes P (range_check o s x)
     unfolding range_check
     range-check-named s x e = from_named s x o.entries o.entries (a e)
 
@@ -88,7 +88,7 @@ module _ (file : List ℕ) (o : Object) where
 
 -- ---- of the object in a file
 
-module _ (file : List ℕ) (opened : (open_of file).verdict ≡ verdict.Accepted) (good : sections_check (length file) (open_of file).summary ≡ verdict.Accepted) where
+module _ (file : List ℕ) (opened : (open_of file).verdict ≡ Ok tt) (good : sections_check (length file) (open_of file).summary ≡ Ok tt) where
   abbrev y : Summary
   y = (open_of file).summary
 
@@ -110,27 +110,27 @@ module _ (file : List ℕ) (opened : (open_of file).verdict ≡ verdict.Accepted
       all_append (λ e. Named file (refusal.Range e.name)) (table_entries file (tables_of file y) (part k)) (entries_in file y (suc k) n)
       (from-there (tables_of file y) k (omega arith) 0 (part k).count (omega arith)) (entries-there (suc k) n (omega arith))
 
-accepted-entries : (file : List ℕ) → object_check file ≡ verdict.Accepted → All (λ e. Named file (refusal.Range e.name)) (object_of file).entries
+accepted-entries : (file : List ℕ) → object_check file ≡ Ok tt → All (λ e. Named file (refusal.Range e.name)) (object_of file).entries
 unfolding object_of
 accepted-entries file e = rw e (entries-there file (opened e) (sections (inside e)) 0 (open_of file).summary.count (omega arith))
   where
-    opened : object_check file ≡ verdict.Accepted → (open_of file).verdict ≡ verdict.Accepted
+    opened : object_check file ≡ Ok tt → (open_of file).verdict ≡ Ok tt
     opened q = unfold object_check in accepted-first (open_of file).verdict (object_in file (open_of file).summary) q
 
-    inside : object_check file ≡ verdict.Accepted → object_in file (open_of file).summary ≡ verdict.Accepted
+    inside : object_check file ≡ Ok tt → object_in file (open_of file).summary ≡ Ok tt
     inside q = unfold object_check in accepted-rest (open_of file).verdict (object_in file (open_of file).summary) q
 
-    sections : object_in file (open_of file).summary ≡ verdict.Accepted → sections_check (length file) (open_of file).summary ≡ verdict.Accepted
+    sections : object_in file (open_of file).summary ≡ Ok tt → sections_check (length file) (open_of file).summary ≡ Ok tt
     sections q = unfold object_in in accepted-first (sections_check (length file) (open_of file).summary) (tables_check file (open_of file).summary) q
 
 verdict-named : (file : List ℕ) → Causes (Named file) (object_of file).verdict
 unfolding object_of
 verdict-named file = check-named file
 
-entries-named : (file : List ℕ) → (object_of file).verdict ≡ verdict.Accepted → All (λ e. Named file (refusal.Range e.name)) (object_of file).entries
+entries-named : (file : List ℕ) → (object_of file).verdict ≡ Ok tt → All (λ e. Named file (refusal.Range e.name)) (object_of file).entries
 entries-named file e = accepted-entries file (judged e)
   where
-    judged : (object_of file).verdict ≡ verdict.Accepted → object_check file ≡ verdict.Accepted
+    judged : (object_of file).verdict ≡ Ok tt → object_check file ≡ Ok tt
     judged q = unfold object_of in q
 
 -- request 4: of each build and move, on a buffer of any length

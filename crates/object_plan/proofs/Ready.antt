@@ -4,8 +4,6 @@ use mathlib.Core.Path.{◌≡◌, sym, ◌∙◌, ap}
 use mathlib.Core.List.{List}
 use native.Mathlib.Omega.{arith}
 use lib.ListN.{length}
-use Rattle.refusal.specs.declared.Verdict.{Verdict}
-use Rattle.refusal.specs.declared.Verdict.TheVariants as verdict
 use Rattle.refusal.proofs.Order.{accepted-rest, first-all}
 use Rattle.header.specs.declared.Summary.{Summary}
 use Rattle.header.specs.Inside.{Inside}
@@ -19,12 +17,14 @@ use Rattle.object.proofs.Sections.{part-number, ready-inside, sections-entries}
 use Rattle.object.proofs.Answer.{sections-ready}
 use Rattle.object_plan.specs.Object.{entries_in, raw_in, placed_in, object_of}
 use Rattle.object_plan.specs.Ready.{ObjectReady, PartReady}
+use Rattle.std.specs.Prelude.{Ok}
+use Rattle.refusal.specs.Verdict.{Verdict}
 
 -- a file whose judgement accepts
-pub object-ready : (file : List ℕ) {y : Summary} {t : Tables} {w : Verdict} → Ready file y t → w ≡ object_in file y → w ≡ verdict.Accepted → ObjectReady file y t
+pub object-ready : (file : List ℕ) {y : Summary} {t : Tables} {w : Verdict} → Ready file y t → w ≡ object_in file y → w ≡ Ok tt → ObjectReady file y t
 object-ready file {y} r e h = record { sections = sections-ready file r e h; tables = from (sym e ∙ h) }
   where
-    from : object_in file y ≡ verdict.Accepted → tables_check file y ≡ verdict.Accepted
+    from : object_in file y ≡ Ok tt → tables_check file y ≡ Ok tt
     from q = unfold object_in in accepted-rest (sections_check (length file) y) (tables_check file y) q
 
 module _ (file : List ℕ) (y : Summary) (t : Tables) (r : ObjectReady file y t) where
@@ -34,13 +34,13 @@ module _ (file : List ℕ) (y : Summary) (t : Tables) (r : ObjectReady file y t)
   pub sections-few : y.count ≤ 32
   sections-few = inside.few
 
-  table-accepted : (k : ℕ) → k < y.count → entries_check file (tables_of file y) (object_section (length file) y k) ≡ verdict.Accepted
+  table-accepted : (k : ℕ) → k < y.count → entries_check file (tables_of file y) (object_section (length file) y k) ≡ Ok tt
   table-accepted k l = from (each r.tables)
     where
-      each : tables_check file y ≡ verdict.Accepted → table_check file y k ≡ verdict.Accepted
+      each : tables_check file y ≡ Ok tt → table_check file y k ≡ Ok tt
       each e = unfold tables_check in first-all (table_check file y) y.count 0 e k (omega arith) (omega arith)
 
-      from : table_check file y k ≡ verdict.Accepted → entries_check file (tables_of file y) (object_section (length file) y k) ≡ verdict.Accepted
+      from : table_check file y k ≡ Ok tt → entries_check file (tables_of file y) (object_section (length file) y k) ≡ Ok tt
       from e = unfold table_check in e
 
   -- one of its sections
@@ -54,11 +54,11 @@ module _ (file : List ℕ) (y : Summary) (t : Tables) (r : ObjectReady file y t)
 
   -- ---- the object, by its parts
 
-  accepted : object_check file ≡ verdict.Accepted
+  accepted : object_check file ≡ Ok tt
   unfolding object_check object_in
   accepted = rw r.sections.opened.accepted (rw (← r.sections.opened.summary) (rw r.sections.sections r.tables))
 
-  pub object-verdict : (object_of file).verdict ≡ verdict.Accepted
+  pub object-verdict : (object_of file).verdict ≡ Ok tt
   unfolding object_of
   object-verdict = accepted
 

@@ -8,8 +8,6 @@ use native.Mathlib.Decide.{dec_lt}
 use native.Mathlib.Omega.{arith}
 use lib.ListN.{length, drop, length-append, length-drop}
 use lib.Seq.{length-take-le}
-use Rattle.refusal.specs.declared.Verdict.{Verdict}
-use Rattle.refusal.specs.declared.Verdict.TheVariants as verdict
 use Rattle.refusal.specs.Order.{if_accepted}
 use Rattle.refusal.proofs.Order.{accepted-first, accepted-rest, first-all}
 use Rattle.format.specs.declared.Format.{Format}
@@ -41,6 +39,8 @@ use Rattle.object_history.specs.declared.ObjectEntry.{ObjectEntry}
 use Rattle.object_history.specs.Entry as history
 use Rattle.object_history.specs.Object.{Sound}
 use Rattle.object_plan.specs.Object.{entries_from, table_entries, entries_in, raw_of, raw_in, placed_in, object_of}
+use Rattle.std.specs.Prelude.{Err, Ok}
+use Rattle.refusal.specs.Verdict.{Verdict}
 
 -- ---- lists, one after the other
 
@@ -100,7 +100,7 @@ field-none : (f : Format) (s : ObjectSection) (at : ℕ) (k : FieldKind) → has
 unfolding field_by
 field-none f s at k e = rw e refl
 
-module _ (file : List ℕ) (t : Tables) (s : ObjectSection) (good : entries_check file t s ≡ verdict.Accepted) where
+module _ (file : List ℕ) (t : Tables) (s : ObjectSection) (good : entries_check file t s ≡ Ok tt) where
   abbrev field_at : ℕ → ObjectField
   field_at i = (object_entry file t s i).field
 
@@ -136,20 +136,20 @@ module _ (file : List ℕ) (t : Tables) (s : ObjectSection) (good : entries_chec
 
 -- ---- the entries of all sections
 
-module _ (file : List ℕ) (y : Summary) (inside : Inside file y) (sections : sections_check (length file) y ≡ verdict.Accepted) (tables : tables_check file y ≡ verdict.Accepted) where
+module _ (file : List ℕ) (y : Summary) (inside : Inside file y) (sections : sections_check (length file) y ≡ Ok tt) (tables : tables_check file y ≡ Ok tt) where
   abbrev part : ℕ → ObjectSection
   part k = object_section (length file) y k
 
   abbrev before : ℕ → ℕ
   before k = bytes_before (length file) y k
 
-  pub table-good : (k : ℕ) → k < y.count → entries_check file (tables_of file y) (part k) ≡ verdict.Accepted
+  pub table-good : (k : ℕ) → k < y.count → entries_check file (tables_of file y) (part k) ≡ Ok tt
   table-good k l = from (each tables)
     where
-      each : tables_check file y ≡ verdict.Accepted → table_check file y k ≡ verdict.Accepted
+      each : tables_check file y ≡ Ok tt → table_check file y k ≡ Ok tt
       each e = unfold tables_check in first-all (table_check file y) y.count 0 e k (omega arith) (omega arith)
 
-      from : table_check file y k ≡ verdict.Accepted → entries_check file (tables_of file y) (part k) ≡ verdict.Accepted
+      from : table_check file y k ≡ Ok tt → entries_check file (tables_of file y) (part k) ≡ Ok tt
       from e = unfold table_check in e
 
   pub ends : (k : ℕ) → (part k).place + (part k).size ≡ before (suc k)
@@ -231,22 +231,22 @@ object-sound file = by (object_check file) refl
     y : Summary
     y = (open_of file).summary
 
-    opened : object_check file ≡ verdict.Accepted → (open_of file).verdict ≡ verdict.Accepted
+    opened : object_check file ≡ Ok tt → (open_of file).verdict ≡ Ok tt
     opened e = unfold object_check in accepted-first (open_of file).verdict (object_in file y) e
 
-    object-in : object_check file ≡ verdict.Accepted → object_in file y ≡ verdict.Accepted
+    object-in : object_check file ≡ Ok tt → object_in file y ≡ Ok tt
     object-in e = unfold object_check in accepted-rest (open_of file).verdict (object_in file y) e
 
-    sections : object_in file y ≡ verdict.Accepted → sections_check (length file) y ≡ verdict.Accepted
+    sections : object_in file y ≡ Ok tt → sections_check (length file) y ≡ Ok tt
     sections e = unfold object_in in accepted-first (sections_check (length file) y) (tables_check file y) e
 
-    tables : object_in file y ≡ verdict.Accepted → tables_check file y ≡ verdict.Accepted
+    tables : object_in file y ≡ Ok tt → tables_check file y ≡ Ok tt
     tables e = unfold object_in in accepted-rest (sections_check (length file) y) (tables_check file y) e
 
     by : (v : Verdict) → object_check file ≡ v
         → Sound (record { verdict = v; limit = address_limit y.format; sections = placed_in y 0 y.count; raw = raw_in file y 0 y.count; entries = if_accepted v (entries_in file y 0 y.count) [] })
-    by verdict.Accepted e =
+    by (Ok tt) e =
         let i = opened_inside file (opened e) in
         let o = object-in e in
         record { inside = all-inside file y i (sections o) (tables o); pairwise = all-pairwise file y i (sections o) (tables o) }
-    by (verdict.Refused x) e = record { inside = tt; pairwise = tt }
+    by (Err x) e = record { inside = tt; pairwise = tt }

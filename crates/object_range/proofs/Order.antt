@@ -9,8 +9,6 @@ use lib.IntN.{ℤ, ◌+ℤ◌}
 use Rattle.word.specs.Number.{field_at}
 use Rattle.refusal.specs.declared.Refusal.TheVariants as refusal
 use Rattle.refusal.specs.declared.SectionRelocation.{SectionRelocation}
-use Rattle.refusal.specs.declared.Verdict.{Verdict}
-use Rattle.refusal.specs.declared.Verdict.TheVariants.{Accepted, Refused}
 use Rattle.refusal.specs.Refusal.{is_refused}
 use Rattle.refusal.specs.Order.{◌or_else◌, refuse_if, first_of}
 use Rattle.refusal.proofs.Order.{refused-if}
@@ -41,6 +39,8 @@ use Rattle.object_range.specs.declared.Source.TheVariants.{RawData, Buffer}
 use Rattle.object_range.specs.Sections.{origin_of, out_at, part_range, section_range, sections_range, Covers}
 use Rattle.object_range.proofs.Sums.{branch-there, amounts-own}
 use Rattle.object_range.proofs.Words.{raw_word}
+use Rattle.std.specs.Prelude.{Err, Ok}
+use Rattle.refusal.specs.Verdict.{Verdict}
 
 -- ---- the first entry of a section's table
 
@@ -49,15 +49,15 @@ module _ (file : List ℕ) (t : Tables) (p : ObjectSection) (s : Shifts) (word :
   unfolding out_at
   out-before i l = refused-if (is_out (object_entry file t p) p.count s word i) (refusal.Range (name_of p i)) ∙ f.before i l
 
-  out-here : x < p.count → out_at file t p s word x ≡ Refused (refusal.Range (name_of p x))
+  out-here : x < p.count → out_at file t p s word x ≡ Err (refusal.Range (name_of p x))
   unfolding out_at
   out-here l = rw (f.here l) refl
 
-  part-refused : x < p.count → Refused (refusal.Range (name_of p x)) ≡ part_range file t p s word
+  part-refused : x < p.count → Err (refusal.Range (name_of p x)) ≡ part_range file t p s word
   unfolding part_range
   part-refused l = sym (first-is (out_at file t p s word) p.count x l out-before (ap is_refused (out-here l)) ∙ out-here l)
 
-  part-accepted : p.count ≤ x → Accepted ≡ part_range file t p s word
+  part-accepted : p.count ≤ x → (Ok tt) ≡ part_range file t p s word
   unfolding part_range
   part-accepted l = sym (first-none (out_at file t p s word) p.count (λ i h. out-before i (omega arith)))
 
@@ -70,8 +70,8 @@ module _ (es : List ObjectEntry) (s : Shifts) (x : List ℕ) where
   range-append (d ∷ ds) cs = ap (λ (v : Verdict). refuse_if (out_of_range es s x d) (refusal.Range d.name) or_else v) (range-append ds cs) ∙ assoc (refuse_if (out_of_range es s x d) (refusal.Range d.name)) (range_from es s x ds) (range_from es s x cs)
     where
       assoc : (u v w : Verdict) → (u or_else v or_else w) ≡ ((u or_else v) or_else w)
-      assoc Accepted v w = refl
-      assoc (Refused r) v w = refl
+      assoc (Ok tt) v w = refl
+      assoc (Err r) v w = refl
 
   -- over a section's table
   range-table : (file : List ℕ) (t : Tables) (p : ObjectSection) (word : ℕ → ℕ)
@@ -184,8 +184,8 @@ module _ (file : List ℕ) (y : Summary) (t : Tables) (r : ObjectReady file y t)
         h ∙ ap (λ (n : ℕ). part_range file t p s (word_from bytes n p)) o
         ∙ ap₂ (λ (u : Tables) (q : ObjectSection). part_range file u q s (word_from bytes (origin_of source q) q)) r.sections.opened.tables e
 
-    pub section-refused : x < p.count → Refused (refusal.Range (name_of p x)) ≡ section_range file y s source bytes k
+    pub section-refused : x < p.count → Err (refusal.Range (name_of p x)) ≡ section_range file y s source bytes k
     section-refused l = section-here (part-refused file t p s (word_from bytes origin p) f l)
 
-    pub section-accepted : p.count ≤ x → Accepted ≡ section_range file y s source bytes k
+    pub section-accepted : p.count ≤ x → (Ok tt) ≡ section_range file y s source bytes k
     section-accepted l = section-here (part-accepted file t p s (word_from bytes origin p) f l)

@@ -10,7 +10,6 @@ use lib.Dec.{eqb}
 use lib.ListN.{length}
 use lib.IntN.{ℤ, pos, ◌+ℤ◌, +ℤ_assoc, +ℤ_idl, +ℤ_idr}
 use borrow.Author.Tests.{ne_eqb}
-use Rattle.refusal.specs.declared.Verdict.TheVariants as verdict
 use Rattle.book.specs.Machine.{Shifts}
 use Rattle.book.specs.Entries.{All}
 use Rattle.field_kind.specs.declared.FieldKind.{FieldKind}
@@ -26,6 +25,7 @@ use Rattle.object.specs.Sections.{bytes_before, object_section}
 use Rattle.object.specs.Check.{sections_check, tables_check}
 use Rattle.object_plan.specs.Object.{table_entries, entries_in}
 use Rattle.object_plan.proofs.Sound.{Between, all_map, from-between, table-good, ends, grows, in_between}
+use Rattle.std.specs.Prelude.{Ok}
 
 -- ---- lists, one after the other
 
@@ -65,7 +65,7 @@ not_on off e {l} {h} d p = by (is_branch e.field.kind) refl
 
 -- ---- the entries of all sections
 
-module _ (file : List ℕ) (y : Summary) (inside : Inside file y) (sections : sections_check (length file) y ≡ verdict.Accepted) (tables : tables_check file y ≡ verdict.Accepted)
+module _ (file : List ℕ) (y : Summary) (inside : Inside file y) (sections : sections_check (length file) y ≡ Ok tt) (tables : tables_check file y ≡ Ok tt)
     (k off : ℕ) (low : bytes_before (length file) y k ≤ off) (high : off < bytes_before (length file) y (suc k)) (s : Shifts) where
   abbrev own : ℕ → List ObjectEntry
   own j = table_entries file (tables_of file y) (object_section (length file) y j)

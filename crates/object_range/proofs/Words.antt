@@ -8,7 +8,6 @@ use lib.ListN.{length, get_or, drop, get_or-append}
 use lib.Seq.{get_or-append-add, get_or-take, get_or-drop}
 use Rattle.word.specs.Number.{field_at}
 use Rattle.word.proofs.Number.{field-four}
-use Rattle.refusal.specs.declared.Verdict.TheVariants as verdict
 use Rattle.header.specs.declared.Summary.{Summary}
 use Rattle.header.specs.Inside.{Inside}
 use Rattle.section_relocation.specs.declared.ObjectSection.{ObjectSection}
@@ -17,6 +16,7 @@ use Rattle.object.specs.Check.{sections_check, tables_check}
 use Rattle.object.proofs.Sections.{bytes-more, part-ready}
 use Rattle.object_plan.specs.Object.{raw_of, raw_in}
 use Rattle.object_plan.proofs.Sound.{grows, raw-one, raw-whole}
+use Rattle.std.specs.Prelude.{Ok}
 
 -- words of the same four bytes
 word_same : (i j : ℕ) (xs ys : List ℕ) → i + 4 ≤ length xs → j + 4 ≤ length ys → ((n : ℕ) → n < 4 → get_or xs (i + n) 0 ≡ get_or ys (j + n) 0) → field_at 4 i xs ≡ field_at 4 j ys
@@ -29,7 +29,7 @@ word_same i j xs ys a b h = field-four i xs a ∙ bytes ∙ sym (field-four j ys
         ≡ get_or ys j 0 * 16777216 + get_or ys (j + 1) 0 * 65536 + get_or ys (j + 2) 0 * 256 + get_or ys (j + 3) 0
     bytes = rw (first, h 1 (omega arith), h 2 (omega arith), h 3 (omega arith)) refl
 
-module _ (file : List ℕ) (y : Summary) (inside : Inside file y) (sections : sections_check (length file) y ≡ verdict.Accepted) (tables : tables_check file y ≡ verdict.Accepted) where
+module _ (file : List ℕ) (y : Summary) (inside : Inside file y) (sections : sections_check (length file) y ≡ Ok tt) (tables : tables_check file y ≡ Ok tt) where
   abbrev part : ℕ → ObjectSection
   part k = object_section (length file) y k
 

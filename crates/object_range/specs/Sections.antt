@@ -1,7 +1,6 @@
 -- RANGE of an object file's entries, section by section.
 use Rattle.std.specs.Prelude.{ℕ, ◌+◌, ◌≤◌, ◌<◌, List, length}
 use Rattle.refusal.specs.declared.Refusal.TheVariants.{Range}
-use Rattle.refusal.specs.declared.Verdict.{Verdict}
 use Rattle.refusal.specs.Order.{refuse_if, first_of}
 use Rattle.book.specs.Machine.{Shifts}
 use Rattle.header.specs.declared.Summary.{Summary}
@@ -14,6 +13,7 @@ use Rattle.object.specs.Sections.{object_section}
 use Rattle.branch_range.specs.Range.{is_out, word_from}
 use Rattle.object_range.specs.declared.Source.{Source}
 use Rattle.object_range.specs.declared.Source.TheVariants.{RawData, Buffer}
+use Rattle.refusal.specs.Verdict.{Verdict}
 
 -- where the bytes of a section start in those that its branches are read from
 abbrev pub origin_of : Source → ObjectSection → ℕ

@@ -9,7 +9,7 @@ ghost use Rattle.object_plan.specs.Ready.{ObjectReady};
 ghost use Rattle.object_range.specs.Sections.{origin_of, sections_range, Covers};
 
 use header::Summary;
-use refusal::{Refusal, Verdict};
+use refusal::Refusal;
 use section_relocation::ObjectSection;
 use symbol::Tables;
 
@@ -39,31 +39,34 @@ fn check_sections(
     from: &[u64],
     source: Source,
     bytes: &[u8],
-) -> Verdict
+) -> Result<(), Refusal>
     requires { ObjectReady file.now y t × Covers file.now y source bytes.now × (length to.now ≡ numbers) × (length from.now ≡ numbers) }
     ensures { result ≡ sections_range file.now y (address_shifts to.now from.now) source bytes.now }
 {
-    let n = y.count;
     let len = file.len() as u64;
     let mut place: u64 = 0;
     let mut first: u64 = 0;
-    let mut k: u64 = 0;
-    while k < n {
+    for k in 0..y.count {
         let s = object::part_of(y, len, k, place, first);
         let origin = origin_of(source, s);
         let x = branch_range::first_out(file, t, s, to, from, bytes, origin);
         if x < s.count {
-            return Verdict::Refused(Refusal::Range(section_relocation::name_of(s, x)));
+            return Err(Refusal::Range(section_relocation::name_of(s, x)));
         }
         place += s.size;
         first += s.count;
-        k += 1;
     }
-    Verdict::Accepted
+    Ok(())
 }
 
 // RANGE of a build, from the raw bytes.
-pub fn check_built(file: &[u8], y: Summary, t: Tables, to: &[u64], from: &[u64]) -> Verdict
+pub fn check_built(
+    file: &[u8],
+    y: Summary,
+    t: Tables,
+    to: &[u64],
+    from: &[u64],
+) -> Result<(), Refusal>
     requires { ObjectReady file.now y t × (length to.now ≡ numbers) × (length from.now ≡ numbers) }
     ensures { result ≡ range_check (object_of file.now) (address_shifts to.now from.now) (object_of file.now).raw }
 {
@@ -78,7 +81,7 @@ pub fn check_moved(
     to: &[u64],
     from: &[u64],
     buffer: &[u8],
-) -> Verdict
+) -> Result<(), Refusal>
     requires { ObjectReady file.now y t × (length to.now ≡ numbers) × (length from.now ≡ numbers) × (length buffer.now ≡ length (object_of file.now).raw) }
     ensures { result ≡ range_check (object_of file.now) (address_shifts to.now from.now) buffer.now }
 {

@@ -14,10 +14,9 @@ fn copy_part(file: &[u8], at: usize, n: usize, out: &mut [u8], place: usize)
     requires { (0 < n → at + n ≤ length file.now) × (place + n ≤ length out.old) }
     ensures { out.new ≡ paste out.old place (drop at file.now) n }
 {
-    let mut i = 0;
-    while i < n {
-        out[place + i] = file[at + i];
-        i += 1;
+    // Where `n` is 0, `at` may be past the end of the file.
+    if n != 0 {
+        out[place..place + n].copy_from_slice(&file[at..at + n]);
     }
 }
 
@@ -27,17 +26,14 @@ pub fn copy_raw(file: &[u8], y: Summary, t: Tables, out: &mut [u8])
     requires out_len { length out.old ≡ length (object_of file.now).raw }
     ensures { out.new ≡ (object_of file.now).raw }
 {
-    let n = y.count;
     let len = file.len() as u64;
     let mut place: u64 = 0;
     let mut first: u64 = 0;
-    let mut k: u64 = 0;
-    while k < n {
+    for k in 0..y.count {
         let s = object::part_of(y, len, k, place, first);
         let raw = s.raw;
         copy_part(file, raw.0 as usize, s.size as usize, out, place as usize);
         place += s.size;
         first += s.count;
-        k += 1;
     }
 }

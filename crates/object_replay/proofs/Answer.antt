@@ -1,15 +1,9 @@
 -- What a list of calls answers and leaves, and what the answer tells.
-use mathlib.Core.Path.{◌≡◌, refl, sym, ◌∙◌, ap, ap₂}
-use mathlib.Core.List.{List, [], ◌∷◌}
-use Prim.Native.Nat.{ℕ, suc, ◌+◌, ◌≤◌}
-use native.Mathlib.Omega.{arith}
+use mathlib.Core.Path.{◌≡◌, ◌∙◌, ap, ap₂}
+use Rattle.script.specs.Tally.{accepted_one}
+use mathlib.Core.List.{List}
+use Prim.Native.Nat.{ℕ, ◌+◌, ◌≤◌}
 use lib.ListN.{length}
-use Rattle.refusal.specs.declared.Head.{Head}
-use Rattle.refusal.specs.declared.Verdict.{Verdict}
-use Rattle.refusal.specs.declared.Verdict.TheVariants.{Accepted, Refused}
-use Rattle.book.specs.Machine as machine
-use Rattle.script.specs.Tally.{answers_of, sum_of, last_of}
-use Rattle.script.proofs.Calls.{call-longer}
 use Rattle.script.proofs.Loop as loop
 use Rattle.object_history.specs.Object.{Object, Plan}
 use Rattle.object_history.specs.Call.{Call, build, move, call_check, effect, run, machine_of}
@@ -18,8 +12,11 @@ use Rattle.object_plan.specs.Object.{object_of}
 use Rattle.object_plan.proofs.Demand3File.{demand-3-object}
 use Rattle.object_replay.specs.declared.ObjectReplay.{ObjectReplay}
 use Rattle.object_replay.specs.Script.{plan_end, plan_at, plans, call_end, call_at, calls_of, encode}
-use Rattle.object_replay.specs.Answer.{verdict_on, verdicts_of, accepted_one, replay_answer, report_of_replay}
-use Rattle.object_replay.proofs.Plans.{plans-forward, object-encode-decode}
+use Rattle.object_replay.specs.Answer.{verdict_on, replay_answer, report_of_replay}
+use Rattle.script.proofs.Plans.{plans-forward}
+use Rattle.object_replay.proofs.Plans.{object-encode-decode}
+use Rattle.std.specs.Prelude.{Ok}
+use Rattle.refusal.specs.Verdict.{Verdict}
 
 -- ---- the calls that were read
 
@@ -43,32 +40,19 @@ module _ (o : Object) (x : List ℕ) (v : Verdict) (z : List ℕ) where
 
 -- ---- the loop
 
-pub accepted-one : (v : Verdict) → accepted_one v ≤ 1
-unfolding accepted_one
-accepted-one Accepted = omega arith
-accepted-one (Refused x) = omega arith
-
 module _ (o : Object) (s : List ℕ) where
   -- what the calls from a place on answer and leave is what the whole script does
   abbrev pub Left : ℕ → ℕ → ℕ → Verdict → List ℕ → List ℕ → Type 0
-  Left at calls accepted last x y = loop.Left (machine_of o) (verdict_on o) accepted_one Accepted plans s at calls accepted last x y
+  Left at calls accepted last x y = loop.Left (machine_of o) (verdict_on o) accepted_one (Ok tt) plans s at calls accepted last x y
 
-  pub left-first : (y : List ℕ) → Left 0 0 0 Accepted y y
-  left-first y = loop.left-first (machine_of o) (verdict_on o) accepted_one Accepted plans s y
+  pub left-first : (y : List ℕ) → Left 0 0 0 (Ok tt) y y
+  left-first y = loop.left-first (machine_of o) (verdict_on o) accepted_one (Ok tt) plans s y
 
   pub left-next : (at e calls accepted n : ℕ) (last v : Verdict) (x z y : List ℕ) → e ≡ call_end s at → (e ≡ 0 → ⊥) → Made o (call_at s at) x v z → n ≡ accepted_one v
       → Left at calls accepted last x y → Left e (calls + 1) (accepted + n) v z y
   unfolding effect
   left-next at e calls accepted n last v x z y p nz made c l =
-      loop.left-next (machine_of o) (verdict_on o) accepted_one Accepted plans s plans-forward at e calls accepted n last v x z y p nz made.0 made.1 c l
-
--- the counts stay within the numbers of the script that were read
-pub counted-bounds : (s : List ℕ) (at e calls accepted n : ℕ) (v : Verdict) → e ≡ call_end s at → (e ≡ 0 → ⊥) → n ≡ accepted_one v
-    → (accepted ≤ calls) × (calls ≤ at) → (accepted + n ≤ calls + 1) × (calls + 1 ≤ e)
-counted-bounds s at e calls accepted n v p nz c b =
-    let o = accepted-one v in
-    let l = call-longer plans plans-forward s at (λ z. nz (p ∙ z)) in
-    (omega arith, omega arith)
+      loop.left-next (machine_of o) (verdict_on o) accepted_one (Ok tt) plans s (plans-forward 0) at e calls accepted n last v x z y p nz made.0 made.1 c l
 
 -- where no call is, the script is run: what it answers, and leaves, in the words of the contract
 pub replayed : (file s : List ℕ) (at calls accepted : ℕ) (last : Verdict) (x y : List ℕ) → call_end s at ≡ 0 → Left (object_of file) s at calls accepted last x y
@@ -77,8 +61,8 @@ pub replayed : (file s : List ℕ) (at calls accepted : ℕ) (last : Verdict) (x
     × ((report_of_replay file t ≡ report_of_replay file (replay_answer (object_of file) (calls_of s) y)) × (x ≡ book_images (object_of file) (book_after (object_of file) (calls_of s) y)))
 replayed file s at calls accepted last x y e l = (answer, (ap (report_of_replay file) answer, left))
   where
-    whole : loop.Whole (machine_of (object_of file)) (verdict_on (object_of file)) accepted_one Accepted plans s calls accepted last x y
-    whole = loop.left-none (machine_of (object_of file)) (verdict_on (object_of file)) accepted_one Accepted plans s at calls accepted last x y e l
+    whole : loop.Whole (machine_of (object_of file)) (verdict_on (object_of file)) accepted_one (Ok tt) plans s calls accepted last x y
+    whole = loop.left-none (machine_of (object_of file)) (verdict_on (object_of file)) accepted_one (Ok tt) plans s at calls accepted last x y e l
 
     answer : record { calls = calls; accepted = accepted; last = last } ≡ replay_answer (object_of file) (calls_of s) y
     answer = unfold replay_answer in
@@ -94,17 +78,9 @@ replayed file s at calls accepted last x y e l = (answer, (ap (report_of_replay 
 -- ---- what the answer tells
 
 -- no more calls are accepted than run
-accepted-among : (o : Object) (cs : List Call) (x : List ℕ) → sum_of accepted_one (verdicts_of o cs x) ≤ length cs
-unfolding answers_of sum_of
-accepted-among o [] x = omega arith
-accepted-among o (c ∷ cs) x =
-    let h = accepted-among o cs (machine.effect (machine_of o) c x) in
-    let one = accepted-one (verdict_on o x c) in
-    omega arith
-
 pub accepted-calls : (o : Object) (cs : List Call) (x : List ℕ) → (replay_answer o cs x).accepted ≤ (replay_answer o cs x).calls
 unfolding replay_answer
-accepted-calls o cs x = accepted-among o cs x
+accepted-calls o cs x = loop.accepted-among (machine_of o) (verdict_on o) cs x
 
 -- of a script that encodes a list every call is run: fewer tell that it was cut short
 pub whole-script : (o : Object) (cs : List Call) (x : List ℕ) → (replay_answer o (calls_of (encode cs)) x).calls ≡ length cs

@@ -1,22 +1,22 @@
 -- A list of calls of an object file as numbers; a plan is how many addresses it has, and those.
-use Rattle.std.specs.Prelude.{cond, List, ◌∷◌, ℕ, ◌+◌, ◌-◌, length, get_or, take, drop, leb, ltb}
+use Rattle.std.specs.Prelude.{List, ◌∷◌, ℕ, length}
 use Rattle.script.specs.Script.{Reader}
 use Rattle.script.specs.Script as script
 use Rattle.object_history.specs.Object.{Plan}
 use Rattle.object_history.specs.Call.{Call}
 
 -- where the plan at a place ends, 0 where it is cut short
-unfoldable pub plan_end : List ℕ → ℕ → ℕ
-plan_end s at = cond (ltb at (length s)) (cond (leb (get_or s at 0) (length s - (at + 1))) (at + 1 + get_or s at 0) 0) 0
+abbrev pub plan_end : List ℕ → ℕ → ℕ
+plan_end s at = script.plan_end 0 s at
 
-unfoldable pub plan_at : List ℕ → ℕ → Plan
-plan_at s at = take (get_or s at 0) (drop (at + 1) s)
+abbrev pub plan_at : List ℕ → ℕ → Plan
+plan_at s at = script.plan_list 0 s at
 
 abbrev pub plans : Reader Plan
 plans = record { end = plan_end; plan = plan_at }
 
 abbrev pub call_end : List ℕ → ℕ → ℕ
-call_end s at = script.call_end plans s at
+call_end s at = script.call_end plan_end s at
 
 abbrev pub call_at : List ℕ → ℕ → Call
 call_at s at = script.call_at plans s at

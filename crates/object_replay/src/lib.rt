@@ -6,16 +6,16 @@ ghost use Rattle.object_history.specs.Call.{Call, build, move, call_check, effec
 ghost use Rattle.object_history.specs.Book.{book_images, book_after};
 ghost use Rattle.object_plan.specs.Object.{object_of};
 ghost use Rattle.object_replay.specs.Script.{plan_end, plan_at, call_end, call_at, calls_of};
-ghost use Rattle.object_replay.specs.Answer.{accepted_one, replay_answer, report_of_replay};
+ghost use Rattle.object_replay.specs.Answer.{replay_answer, report_of_replay};
 
-use refusal::{Head, Verdict};
+use refusal::{Head, Refusal};
 
 // How many calls were run, how many of them were accepted, and the last one's verdict.
 #[derive(Clone, Copy)]
 pub struct ObjectReplay {
     pub calls: u64,
     pub accepted: u64,
-    pub last: Verdict,
+    pub last: Result<(), Refusal>,
 }
 
 // The last call's head, and the counts.
@@ -29,51 +29,19 @@ pub struct ObjectReplayReport {
 
 // ---- the script
 
-// Where the plan at a place ends. 0 where it is cut short.
-fn plan_end(s: &[u64], at: usize) -> usize
-    ensures { result ≡ plan_end s.now at }
-{
-    let len = s.len();
-    if len <= at {
-        return 0;
-    }
-    let n = s[at] as usize;
-    if len - (at + 1) < n {
-        return 0;
-    }
-    at + 1 + n
-}
-
-// Where the call at a place ends. 0 where there is none.
-fn call_end(s: &[u64], at: usize) -> usize
-    ensures { result ≡ call_end s.now at }
-{
-    if s.len() <= at {
-        return 0;
-    }
-    let a = plan_end(s, at + 1);
-    if s[at] == 0 {
-        return a;
-    }
-    if a == 0 {
-        return 0;
-    }
-    plan_end(s, a)
-}
-
 // The plan at a place.
 fn plan_at<'a>(s: &'a [u64], at: usize) -> &'a [u64]
     requires { plan_end s.now at ≡ 0 → ⊥ }
     ensures { result.now ≡ plan_at s.now at }
 {
-    let end = plan_end(s, at);
+    let end = script::plan_end::<0>(s, at);
     &s[at + 1..end]
 }
 
 // ---- its calls
 
 // Builds for the plan at a place.
-fn do_build(file: &[u8], s: &[u64], at: usize, buffer: &mut [u8]) -> Verdict
+fn do_build(file: &[u8], s: &[u64], at: usize, buffer: &mut [u8]) -> Result<(), Refusal>
     requires { plan_end s.now at ≡ 0 → ⊥ }
     ensures cause { result ≡ call_check (object_of file.now) (length buffer.old) buffer.old (build (plan_at s.now at)) }
     ensures image { buffer.new ≡ effect (object_of file.now) (build (plan_at s.now at)) buffer.old }
@@ -83,19 +51,19 @@ fn do_build(file: &[u8], s: &[u64], at: usize, buffer: &mut [u8]) -> Verdict
 }
 
 // Moves from the plan at a place to the one after it.
-fn do_move(file: &[u8], s: &[u64], at: usize, buffer: &mut [u8]) -> Verdict
+fn do_move(file: &[u8], s: &[u64], at: usize, buffer: &mut [u8]) -> Result<(), Refusal>
     requires { (plan_end s.now at ≡ 0 → ⊥) × (plan_end s.now (plan_end s.now at) ≡ 0 → ⊥) }
     ensures cause { result ≡ call_check (object_of file.now) (length buffer.old) buffer.old (move (plan_at s.now at) (plan_at s.now (plan_end s.now at))) }
     ensures image { buffer.new ≡ effect (object_of file.now) (move (plan_at s.now at) (plan_at s.now (plan_end s.now at))) buffer.old }
 {
-    let next = plan_end(s, at);
+    let next = script::plan_end::<0>(s, at);
     let from = plan_at(s, at);
     let to = plan_at(s, next);
     object_image::move_object(file, from, to, buffer)
 }
 
 // Makes the call at a place.
-fn answer_call(file: &[u8], s: &[u64], at: usize, buffer: &mut [u8]) -> Verdict
+fn answer_call(file: &[u8], s: &[u64], at: usize, buffer: &mut [u8]) -> Result<(), Refusal>
     requires { call_end s.now at ≡ 0 → ⊥ }
     ensures cause { result ≡ call_check (object_of file.now) (length buffer.old) buffer.old (call_at s.now at) }
     ensures image { buffer.new ≡ effect (object_of file.now) (call_at s.now at) buffer.old }
@@ -108,28 +76,18 @@ fn answer_call(file: &[u8], s: &[u64], at: usize, buffer: &mut [u8]) -> Verdict
 
 // ---- the list
 
-// 1 of an accepted call, 0 of a refused one.
-fn accepted_one(v: Verdict) -> u64
-    ensures { result ≡ accepted_one v }
-{
-    match v {
-        Verdict::Accepted => 1,
-        Verdict::Refused(_x) => 0,
-    }
-}
-
 // Runs the calls that `script` encodes on the buffer; a call that is refused changes nothing and does not end the list.
 pub fn replay_object(file: &[u8], script: &[u64], buffer: &mut [u8]) -> ObjectReplay
     ensures cause { result ≡ replay_answer (object_of file.now) (calls_of script.now) buffer.old }
     ensures report { report_of_replay file.now result ≡ report_of_replay file.now (replay_answer (object_of file.now) (calls_of script.now) buffer.old) }
     ensures image { buffer.new ≡ book_images (object_of file.now) (book_after (object_of file.now) (calls_of script.now) buffer.old) }
 {
-    let mut last = Verdict::Accepted;
+    let mut last = Ok(());
     let mut calls: u64 = 0;
     let mut accepted: u64 = 0;
     let mut at: usize = 0;
     while at < script.len() {
-        let end = call_end(script, at);
+        let end = script::call_end::<0>(script, at);
         if end == 0 {
             return ObjectReplay {
                 calls,
@@ -139,7 +97,7 @@ pub fn replay_object(file: &[u8], script: &[u64], buffer: &mut [u8]) -> ObjectRe
         }
         last = answer_call(file, script, at, buffer);
         calls += 1;
-        accepted += accepted_one(last);
+        accepted += script::accepted_one(&last);
         at = end;
     }
     ObjectReplay {

@@ -13,7 +13,6 @@ use Rattle.format.specs.Layout.{address_limit}
 use Rattle.refusal.specs.declared.PlanItem.TheVariants.{SectionAddress}
 use Rattle.refusal.specs.declared.RoomItem.TheVariants.{AddressList}
 use Rattle.refusal.specs.declared.Refusal.TheVariants as refusal
-use Rattle.refusal.specs.declared.Verdict.TheVariants.{Accepted, Refused}
 use Rattle.refusal.specs.Refusal.{is_refused}
 use Rattle.refusal.specs.Order.{first_of, refuse_if}
 use Rattle.refusal.proofs.Order.{refused-if, first-turn, first-stop, first-start, accepted-equal}
@@ -25,20 +24,21 @@ use Rattle.object_plan.specs.Object.{placed_in, object_of}
 use Rattle.object_plan.specs.Ready.{ObjectReady}
 use Rattle.object_shifts.specs.Places.{planned_by}
 use Rattle.object_shifts.proofs.Places.{placed-length, placed-here}
+use Rattle.std.specs.Prelude.{Err, Ok}
 
 -- ---- ROOM 2
 
 module _ (y : Summary) (p : Plan) where
-  pub list-whole : length p ≡ y.count → Accepted ≡ list_check (planned_by y) p
+  pub list-whole : length p ≡ y.count → (Ok tt) ≡ list_check (planned_by y) p
   unfolding list_check
   list-whole e = rw (placed-length y 0 y.count, eq-eqb (length p) y.count e) refl
 
-  pub list-other : (length p ≡ y.count → ⊥) → Refused (refusal.Room AddressList) ≡ list_check (planned_by y) p
+  pub list-other : (length p ≡ y.count → ⊥) → Err (refusal.Room AddressList) ≡ list_check (planned_by y) p
   unfolding list_check
   list-other n = rw (placed-length y 0 y.count, ne_eqb (length p) y.count n) refl
 
   -- a list that passes it has an address for each section
-  pub list-accepted : list_check (planned_by y) p ≡ Accepted → length p ≡ y.count
+  pub list-accepted : list_check (planned_by y) p ≡ Ok tt → length p ≡ y.count
   unfolding list_check
   list-accepted e = accepted-equal (length p) (length (placed_in y 0 y.count)) (refusal.Room AddressList) e ∙ placed-length y 0 y.count
 
@@ -83,7 +83,7 @@ module _ (y : Summary) (p : Plan) (last : ℕ) (e : last + 1 ≡ address_limit y
     pub fit-turn : b ≡ false → first_of (section_check (planned_by y) p) k (y.count - k) ≡ first_of (section_check (planned_by y) p) (k + 1) (y.count - (k + 1))
     fit-turn z = first-turn (section_check (planned_by y) p) y.count k l (told z)
 
-    pub fit-stop : b ≡ true → first_of (section_check (planned_by y) p) k (y.count - k) ≡ Refused (refusal.Plan (SectionAddress (record { 0 = k + 1 })))
+    pub fit-stop : b ≡ true → first_of (section_check (planned_by y) p) k (y.count - k) ≡ Err (refusal.Plan (SectionAddress (record { 0 = k + 1 })))
     fit-stop z =
         first-stop (section_check (planned_by y) p) y.count k l (told z) ∙ section-check
         ∙ ap (λ (b : Bool). refuse_if b (refusal.Plan (SectionAddress (record { 0 = k + 1 })))) (sym h ∙ z)

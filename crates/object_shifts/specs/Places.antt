@@ -1,8 +1,7 @@
 -- The addresses of an object file's sections by section number. Their differences are the shifts.
-use Rattle.std.specs.Prelude.{ℕ, zero, suc, cond, List, [], get_or, set, replicate}
+use Rattle.std.specs.Prelude.{ℕ, zero, suc, cond, List, [], get_or, set, replicate, Ok}
 use Rattle.section_kind.specs.Kind.{is_placed_kind}
 use Rattle.format.specs.Layout.{address_limit}
-use Rattle.refusal.specs.declared.Verdict.TheVariants.{Accepted}
 use Rattle.section.specs.declared.Section.{Section}
 use Rattle.file_tables.specs.Tables.{blank_section}
 use Rattle.header.specs.declared.Summary.{Summary}
@@ -28,4 +27,4 @@ recorded_of y = places_by y.sections (λ k. (get_or y.sections k blank_section).
 
 -- what plans are judged by: the sections, and the end of the address space
 abbrev pub planned_by : Summary → Object
-planned_by y = record { verdict = Accepted; limit = address_limit y.format; sections = placed_in y 0 y.count; raw = []; entries = [] }
+planned_by y = record { verdict = Ok tt; limit = address_limit y.format; sections = placed_in y 0 y.count; raw = []; entries = [] }

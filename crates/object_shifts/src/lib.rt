@@ -9,7 +9,7 @@ ghost use Rattle.object_shifts.specs.Places.{places_of, recorded_of, planned_by}
 
 use format::SectionNumber;
 use header::Summary;
-use refusal::{PlanItem, Refusal, RoomItem, Verdict};
+use refusal::{PlanItem, Refusal, RoomItem};
 use section::Section;
 use section_kind::SectionKind;
 
@@ -31,14 +31,11 @@ pub fn plan_places(y: Summary, p: &[u64]) -> [u64; 33]
     ensures { result ≡ places_of y p.now }
 {
     let sections = y.sections;
-    let n = y.count as usize;
     let mut out = [0u64; 33];
-    let mut k: usize = 0;
-    while k < n {
+    for (k, a) in p.iter().enumerate() {
         let s = sections[k];
         let kind = s.kind;
-        out[k + 1] = placed_address(kind, p[k]);
-        k += 1;
+        out[k + 1] = placed_address(kind, *a);
     }
     out
 }
@@ -49,15 +46,12 @@ pub fn recorded_places(y: Summary) -> [u64; 33]
     ensures { result ≡ recorded_of y }
 {
     let sections = y.sections;
-    let n = y.count as usize;
     let mut out = [0u64; 33];
-    let mut k: usize = 0;
-    while k < n {
+    for k in 0..y.count as usize {
         let s = sections[k];
         let kind = s.kind;
         let address = s.vaddr;
         out[k + 1] = placed_address(kind, address.0);
-        k += 1;
     }
     out
 }
@@ -65,13 +59,13 @@ pub fn recorded_places(y: Summary) -> [u64; 33]
 // ---- which plans are accepted
 
 // ROOM 2: a list of exactly as many addresses as sections.
-pub fn check_list(y: Summary, p: &[u64]) -> Verdict
+pub fn check_list(y: Summary, p: &[u64]) -> Result<(), Refusal>
     ensures { result ≡ list_check (planned_by y) p.now }
 {
     if p.len() as u64 == y.count {
-        return Verdict::Accepted;
+        return Ok(());
     }
-    Verdict::Refused(Refusal::Room(RoomItem::AddressList))
+    Err(Refusal::Room(RoomItem::AddressList))
 }
 
 // Whether `a` is an address up to `last`, and `size` bytes from it end there or before.
@@ -99,21 +93,19 @@ fn refuses_address(last: u64, s: Section, a: u64) -> bool
 }
 
 // PLAN of the first section that does not fit.
-pub fn check_fit(y: Summary, p: &[u64]) -> Verdict
+pub fn check_fit(y: Summary, p: &[u64]) -> Result<(), Refusal>
     requires { (y.count ≤ section_limit) × (length p.now ≡ y.count) }
     ensures { result ≡ fit_check (planned_by y) p.now }
 {
     let f = y.format;
     let last = format::last_address(f);
     let sections = y.sections;
-    let mut k: u64 = 0;
-    while k < y.count {
-        let s = sections[k as usize];
-        if refuses_address(last.0, s, p[k as usize]) {
-            let number = SectionNumber(k + 1);
-            return Verdict::Refused(Refusal::Plan(PlanItem::SectionAddress(number)));
+    for (k, a) in p.iter().enumerate() {
+        let s = sections[k];
+        if refuses_address(last.0, s, *a) {
+            let number = SectionNumber(k as u64 + 1);
+            return Err(Refusal::Plan(PlanItem::SectionAddress(number)));
         }
-        k += 1;
     }
-    Verdict::Accepted
+    Ok(())
 }

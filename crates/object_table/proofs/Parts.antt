@@ -8,8 +8,6 @@ use Rattle.format.specs.declared.Format.{Format}
 use Rattle.format.specs.declared.SectionNumber.{SectionNumber}
 use Rattle.refusal.specs.declared.IndexItem.TheVariants.{NoSection}
 use Rattle.refusal.specs.declared.Refusal.TheVariants.{Index}
-use Rattle.refusal.specs.declared.Verdict.{Verdict}
-use Rattle.refusal.specs.declared.Verdict.TheVariants as verdict
 use Rattle.refusal.specs.Order.{refuse_if, if_accepted}
 use Rattle.refusal.specs.Refusal.{is_refused}
 use Rattle.refusal.proofs.Order.{stop, go_on, accepted-first}
@@ -18,13 +16,15 @@ use Rattle.section_lookup.specs.Lookup.{number_check}
 use Rattle.section_lookup.proofs.Lookup.{number-known}
 use Rattle.symbol.specs.declared.Tables.{Tables}
 use Rattle.section_relocation.specs.declared.ObjectSection.{ObjectSection}
-use Rattle.section_relocation.specs.Entry.{entry_in, is_held}
+use Rattle.section_relocation.specs.Entry.{entry_in, is_held, TableReady}
 use Rattle.object_entry.proofs.Entries.{held}
 use Rattle.section_entries.proofs.Accepted.{own-accepted}
 use Rattle.object.specs.Sections.{is_held_kind, section_at}
 use Rattle.object_plan.specs.Ready.{PartReady}
 use Rattle.rows.specs.Rows.{room_check}
 use Rattle.object_table.specs.Table.{section_row, entry_row, entry_rows, held_check, part_of, entries_check_in}
+use Rattle.std.specs.Prelude.{Err, Ok}
+use Rattle.refusal.specs.Verdict.{Verdict}
 
 -- ---- rows
 
@@ -34,8 +34,9 @@ section-even len y k = refl
 pub entry-even : (file : List ℕ) (f : Format) (s : ObjectSection) (i : ℕ) → length (entry_row file f s i) ≡ 6
 entry-even file f s i = refl
 
-pub entry-held : (file : List ℕ) (t : Tables) (s : ObjectSection) (i : ℕ) → PartReady file t s → i < s.count → is_held t.format s (entry_in file t.format s i) ≡ true
-entry-held file t s i r l = held file t s i (own-accepted file t s r.good i l)
+-- what the row of entry i asks
+pub entry-ready : (file : List ℕ) (t : Tables) (s : ObjectSection) → PartReady file t s → (i : ℕ) → i < s.count → TableReady file t.format s × (i < s.count) × (is_held t.format s (entry_in file t.format s i) ≡ true)
+entry-ready file t s r i l = (r.entries.ready, l, held file t s i (own-accepted file t s r.good i l))
 
 -- ---- INDEX
 
@@ -47,20 +48,20 @@ module _ (y : Summary) (n : SectionNumber) where
   unfolding held_check
   number-refused e h = e ∙ sym (stop (number_check y.count n) last (ap is_refused (sym e) ∙ h))
 
-  module _ {b : Bool} (k : number_check y.count n ≡ verdict.Accepted) (e : b ≡ is_held_kind (section_at y (n.0 - 1)).kind) where
-    pub is-held-section : b ≡ true → verdict.Accepted ≡ held_check y n
+  module _ {b : Bool} (k : number_check y.count n ≡ Ok tt) (e : b ≡ is_held_kind (section_at y (n.0 - 1)).kind) where
+    pub is-held-section : b ≡ true → (Ok tt) ≡ held_check y n
     unfolding held_check
     is-held-section h = rw (k, ← e) (rw h refl)
 
-    pub not-held-section : b ≡ false → verdict.Refused (Index (NoSection n)) ≡ held_check y n
+    pub not-held-section : b ≡ false → Err (Index (NoSection n)) ≡ held_check y n
     unfolding held_check
     not-held-section h = rw (k, ← e) (rw h refl)
 
   -- the number of a section that is there
-  pub held-known : held_check y n ≡ verdict.Accepted → (0 < n.0) × (n.0 ≤ y.count)
+  pub held-known : held_check y n ≡ Ok tt → (0 < n.0) × (n.0 ≤ y.count)
   held-known e = number-known y.count n (first e)
     where
-      first : held_check y n ≡ verdict.Accepted → number_check y.count n ≡ verdict.Accepted
+      first : held_check y n ≡ Ok tt → number_check y.count n ≡ Ok tt
       first q = unfold held_check in accepted-first (number_check y.count n) _ q
 
 -- a section's entries, by its number

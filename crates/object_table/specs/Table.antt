@@ -4,7 +4,6 @@ use Rattle.format.specs.declared.Format.{Format}
 use Rattle.format.specs.declared.SectionNumber.{SectionNumber}
 use Rattle.refusal.specs.declared.IndexItem.TheVariants.{NoSection}
 use Rattle.refusal.specs.declared.Refusal.TheVariants.{Index}
-use Rattle.refusal.specs.declared.Verdict.{Verdict}
 use Rattle.refusal.specs.Order.{◌or_else◌, refuse_if, if_accepted}
 use Rattle.header.specs.declared.Summary.{Summary}
 use Rattle.header.specs.Open.{open_of}
@@ -18,6 +17,7 @@ use Rattle.section_relocation.specs.Entry.{entry_in, field_in}
 use Rattle.object.specs.Sections.{is_held_kind, section_at, object_section}
 use Rattle.object.specs.Check.{object_check}
 use Rattle.rows.specs.Rows.{rows_of, room_check}
+use Rattle.refusal.specs.Verdict.{Verdict}
 
 -- ---- the sections
 

@@ -15,7 +15,7 @@ ghost use Rattle.object_table.specs.Table.{part_row, section_rows, section_rows_
 use field_kind::FieldKind;
 use format::{Format, SectionNumber};
 use header::Summary;
-use refusal::{IndexItem, Refusal, Verdict};
+use refusal::{IndexItem, Refusal};
 use section_relocation::ObjectSection;
 use symbol::Tables;
 
@@ -32,55 +32,41 @@ fn write_sections(file: &[u8], y: Summary, t: Tables, out: &mut [u64])
     requires { SectionsReady file.now y t × (length out.old ≡ 5 * y.count) }
     ensures { out.new ≡ section_rows (length file.now) y }
 {
-    let n = y.count;
     let len = file.len() as u64;
     let mut place: u64 = 0;
     let mut first: u64 = 0;
-    let mut k: u64 = 0;
-    while k < n {
+    for k in 0..y.count {
         let s = object::part_of(y, len, k, place, first);
         let row = part_row(s);
         rows::write_row(&row, k as usize * 5, out);
         place += s.size;
         first += s.count;
-        k += 1;
     }
 }
 
 // ROOM 0, or the rows of the sections.
-fn list_sections(file: &[u8], y: Summary, t: Tables, out: &mut [u64]) -> Verdict
+fn list_sections(file: &[u8], y: Summary, t: Tables, out: &mut [u64]) -> Result<(), Refusal>
     requires { SectionsReady file.now y t }
     ensures answer { result ≡ room_check (length out.old) (5 * y.count) }
     ensures rows { out.new ≡ if_accepted result (section_rows (length file.now) y) out.old }
 {
-    let v = rows::check_room(out.len() as u64, 5 * y.count);
-    if refusal::refuses(v) {
-        return v;
-    }
+    rows::check_room(out.len() as u64, 5 * y.count)?;
     write_sections(file, y, t, out);
-    Verdict::Accepted
+    Ok(())
 }
 
 // A row of 5 numbers for each section.
-pub fn object_sections(file: &[u8], out: &mut [u64]) -> Verdict
+pub fn object_sections(file: &[u8], out: &mut [u64]) -> Result<(), Refusal>
     ensures cause { result ≡ section_rows_check file.now (length out.old) }
     ensures report { report_head file.now result ≡ report_head file.now (section_rows_check file.now (length out.old)) }
     ensures rows { out.new ≡ section_rows_after file.now out.old }
 {
     let o = header::open(file);
-    let v = o.verdict;
-    match v {
-        Verdict::Refused(x) => Verdict::Refused(x),
-        Verdict::Accepted => {
-            let y = o.summary;
-            let t = symbol::tables_of(file, y);
-            let w = object::check_object(file, y, t);
-            match w {
-                Verdict::Refused(x) => Verdict::Refused(x),
-                Verdict::Accepted => list_sections(file, y, t, out),
-            }
-        }
-    }
+    o.verdict?;
+    let y = o.summary;
+    let t = symbol::tables_of(file, y);
+    object::check_object(file, y, t)?;
+    list_sections(file, y, t, out)
 }
 
 // ---- the entries of a section
@@ -117,51 +103,36 @@ fn entry_row(file: &[u8], f: Format, s: ObjectSection, i: u64) -> [u64; 6]
     ]
 }
 
-fn write_entries(file: &[u8], t: Tables, s: ObjectSection, out: &mut [u64])
-    requires { PartReady file.now t s × (length out.old ≡ 6 * s.count) }
-    ensures { out.new ≡ entry_rows file.now t.format s }
-{
-    let f = t.format;
-    let n = s.count;
-    let mut i: u64 = 0;
-    while i < n {
-        let row = entry_row(file, f, s, i);
-        rows::write_row(&row, i as usize * 6, out);
-        i += 1;
-    }
-}
-
 // ROOM 0, or the rows of the section's entries.
-fn list_entries(file: &[u8], t: Tables, s: ObjectSection, out: &mut [u64]) -> Verdict
+fn list_entries(file: &[u8], t: Tables, s: ObjectSection, out: &mut [u64]) -> Result<(), Refusal>
     requires { PartReady file.now t s }
     ensures answer { result ≡ room_check (length out.old) (6 * s.count) }
     ensures rows { out.new ≡ if_accepted result (entry_rows file.now t.format s) out.old }
 {
-    let v = rows::check_room(out.len() as u64, 6 * s.count);
-    if refusal::refuses(v) {
-        return v;
-    }
-    write_entries(file, t, s, out);
-    Verdict::Accepted
+    rows::check_room(out.len() as u64, 6 * s.count)?;
+    let f = t.format;
+    let row = |i|
+        requires { TableReady file.now f s × (i < s.count) × (is_held f s (entry_in file.now f s i) ≡ true) }
+        ensures { result ≡ entry_row file.entry.now f s i }
+    { entry_row(file, f, s, i) };
+    rows::write_rows(6, s.count, row, out);
+    Ok(())
 }
 
 // INDEX where the file has no text or data section `n`.
-fn check_held(y: Summary, n: SectionNumber) -> Verdict
+fn check_held(y: Summary, n: SectionNumber) -> Result<(), Refusal>
     requires { y.count ≤ section_limit }
     ensures { result ≡ held_check y n }
 {
-    let v = section_lookup::check_number(Verdict::Accepted, y.count, n);
-    if refusal::refuses(v) {
-        return v;
-    }
+    section_lookup::check_number(Ok(()), y.count, n)?;
     let sections = y.sections;
     let i = (n.0 - 1) as usize;
     let s = sections[i];
     let kind = s.kind;
     if object::is_held_kind(kind) {
-        return Verdict::Accepted;
+        return Ok(());
     }
-    Verdict::Refused(Refusal::Index(IndexItem::NoSection(n)))
+    Err(Refusal::Index(IndexItem::NoSection(n)))
 }
 
 // The section with place `k`: its bytes follow those of the sections before it, and so are its entries numbered.
@@ -172,48 +143,41 @@ fn part_at(file: &[u8], y: Summary, t: Tables, k: u64) -> ObjectSection
     let len = file.len() as u64;
     let mut place: u64 = 0;
     let mut first: u64 = 0;
-    let mut j: u64 = 0;
-    while j < k {
+    for j in 0..k {
         let s = object::part_of(y, len, j, place, first);
         place += s.size;
         first += s.count;
-        j += 1;
     }
     object::part_of(y, len, k, place, first)
 }
 
 // INDEX, ROOM 0, or the rows of section `n`.
-fn entries_in(file: &[u8], y: Summary, t: Tables, n: SectionNumber, out: &mut [u64]) -> Verdict
+fn entries_in(
+    file: &[u8],
+    y: Summary,
+    t: Tables,
+    n: SectionNumber,
+    out: &mut [u64],
+) -> Result<(), Refusal>
     requires { ObjectReady file.now y t }
     ensures answer { result ≡ entries_check_in (length file.now) y n (length out.old) }
     ensures rows { out.new ≡ if_accepted result (entry_rows file.now y.format (part_of (length file.now) y n)) out.old }
 {
-    let v = check_held(y, n);
-    if refusal::refuses(v) {
-        return v;
-    }
+    check_held(y, n)?;
     let s = part_at(file, y, t, n.0 - 1);
     list_entries(file, t, s, out)
 }
 
 // A row of 6 numbers for each entry of text or data section `n`.
-pub fn object_entries(file: &[u8], n: SectionNumber, out: &mut [u64]) -> Verdict
+pub fn object_entries(file: &[u8], n: SectionNumber, out: &mut [u64]) -> Result<(), Refusal>
     ensures cause { result ≡ entry_rows_check file.now n (length out.old) }
     ensures report { report_head file.now result ≡ report_head file.now (entry_rows_check file.now n (length out.old)) }
     ensures rows { out.new ≡ entry_rows_after file.now n out.old }
 {
     let o = header::open(file);
-    let v = o.verdict;
-    match v {
-        Verdict::Refused(x) => Verdict::Refused(x),
-        Verdict::Accepted => {
-            let y = o.summary;
-            let t = symbol::tables_of(file, y);
-            let w = object::check_object(file, y, t);
-            match w {
-                Verdict::Refused(x) => Verdict::Refused(x),
-                Verdict::Accepted => entries_in(file, y, t, n, out),
-            }
-        }
-    }
+    o.verdict?;
+    let y = o.summary;
+    let t = symbol::tables_of(file, y);
+    object::check_object(file, y, t)?;
+    entries_in(file, y, t, n, out)
 }

@@ -11,8 +11,6 @@ use Rattle.word.specs.Number.{field_in}
 use Rattle.word.specs.Test.{past}
 use Rattle.word.proofs.Test.{past-not, either}
 use Rattle.format.specs.declared.Format.{Format}
-use Rattle.format.specs.declared.MagicAnswer.{MagicAnswer}
-use Rattle.format.specs.declared.MagicAnswer.TheVariants as magic
 use Rattle.format.specs.Layout.{magic_field, format_of, section_layout, symbol_length, loader_symbol_length, relocation_layout}
 use Rattle.format.specs.Limit.{file_limit}
 use Rattle.refusal.specs.declared.Refusal.{Refusal}
@@ -28,14 +26,12 @@ use Rattle.refusal.specs.declared.AddressItem.{AddressItem}
 use Rattle.refusal.specs.declared.AddressItem.TheVariants.{Misplaced, BssBelowData}
 use Rattle.refusal.specs.declared.ThreadItem.{ThreadItem}
 use Rattle.refusal.specs.declared.ThreadItem.TheVariants.{ThreadSection, ThreadSymbol}
-use Rattle.refusal.specs.declared.Verdict.{Verdict}
-use Rattle.refusal.specs.declared.Verdict.TheVariants.{Accepted, Refused}
 use Rattle.refusal.specs.Order.{if_accepted}
 use Rattle.file_header.specs.Header.{header_at, header_check}
 use Rattle.offset.specs.declared.Starts.{Starts}
-use Rattle.offset.specs.declared.StartsAnswer.{StartsAnswer}
-use Rattle.offset.specs.declared.StartsAnswer.TheVariants.{Known, Unknown}
 use Rattle.offset.specs.Offset.{placed, entry_place, loader_in, starts_as, starts_by, starts_of, header_place, symbol_place, loader_symbol_place, relocation_place, section_table, section_relocation_place, limit_place, bounds_place, address_place, thread_place, offset_in, offset_by, offset_of}
+use Rattle.std.specs.Prelude.{Err, None, Ok, Option, Some}
+use Rattle.refusal.specs.Verdict.{Verdict}
 
 -- a place behind a start, and an entry's place, are in the file: 0 where they are not
 placed-in : (len start off : ℕ) → placed len start off ≤ len
@@ -133,23 +129,23 @@ module _ (file : List ℕ) (s : Starts) (b : Within s) where
   offset-in Group = omega arith
 
 module _ (file : List ℕ) where
-  abbrev Inside : StartsAnswer → Type 0
-  Inside Unknown = Unit {0}
-  Inside (Known s) = (s.length ≡ length file) × Within s
+  abbrev Inside : Option Starts → Type 0
+  Inside None = Unit {0}
+  Inside (Some s) = (s.length ≡ length file) × Within s
 
-  starts-in : (f : Format) → Inside (Known (starts_as f file))
+  starts-in : (f : Format) → Inside (Some (starts_as f file))
   unfolding starts_as
   starts-in f =
       let h = header_at f file in
       (refl, record { strings = placed-in (length file) h.symptr.0 (h.nsyms * symbol_length); loader = placed-in (length file) (loader_in file h h.nscns) 0 })
 
-  by-header : (f : Format) (v : Verdict) → Inside (if_accepted v (Known (starts_as f file)) Unknown)
-  by-header f Accepted = starts-in f
-  by-header f (Refused x) = tt
+  by-header : (f : Format) (v : Verdict) → Inside (if_accepted v (Some (starts_as f file)) None)
+  by-header f (Ok tt) = starts-in f
+  by-header f (Err x) = tt
 
-  by-magic : (a : MagicAnswer) → Inside (starts_by file a)
-  by-magic magic.Unknown = tt
-  by-magic (magic.Known f) = by-header f (header_check f file)
+  by-magic : (a : Option Format) → Inside (starts_by file a)
+  by-magic None = tt
+  by-magic (Some f) = by-header f (header_check f file)
 
   starts-inside : Inside (starts_of file)
   unfolding starts_of
@@ -158,12 +154,12 @@ module _ (file : List ℕ) where
       (λ _. either Inside (ltb (length file) 2) (λ _. tt)
       (λ _. by-magic (format_of (field_in magic_field 0 file))))
 
-  pub known-length : {s : Starts} → starts_of file ≡ Known s → s.length ≡ length file
+  pub known-length : {s : Starts} → starts_of file ≡ Some s → s.length ≡ length file
   known-length e = (rw e at starts-inside).0
 
-  by-starts : (x : Refusal) (a : StartsAnswer) → Inside a → offset_by file a x ≤ length file
-  by-starts x Unknown b = omega arith
-  by-starts x (Known s) b = let p = offset-in file s b.1 x in let e = b.0 in omega arith
+  by-starts : (x : Refusal) (a : Option Starts) → Inside a → offset_by file a x ≤ length file
+  by-starts x None b = omega arith
+  by-starts x (Some s) b = let p = offset-in file s b.1 x in let e = b.0 in omega arith
 
   -- request 4: "an offset is at most the file's length"
   pub offset-inside : (x : Refusal) → offset_of file x ≤ length file

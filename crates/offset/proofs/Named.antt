@@ -1,13 +1,11 @@
 -- What a refusal names is there: for a file whose headers are whole, from what the checks before the refusal leave known. Assumes nothing.
-use Prim.Native.Nat.{ℕ, suc, ◌+◌, ◌-◌, ◌*◌, ◌≤◌, ◌<◌}
+use Prim.Native.Nat.{ℕ, ◌+◌, ◌-◌, ◌*◌, ◌≤◌, ◌<◌}
 use mathlib.Core.Path.{◌≡◌, refl, sym, ◌∙◌, ap, ap₂, subst}
-use mathlib.Core.Bool.{Bool, true, false, cond}
 use mathlib.Core.List.{List}
 use native.Mathlib.Nat.{add-zero, zero-mul, mul-le-mul_right}
 use native.Mathlib.Omega.{arith}
 use lib.ListN.{length}
 use Rattle.word.specs.Number.{field_in}
-use Rattle.word.specs.Test.{past}
 use Rattle.word.proofs.Test.{past-no}
 use borrow.Author.Tests.{ne_eqb}
 use Rattle.format.specs.declared.Format.{Format}
@@ -16,28 +14,24 @@ use Rattle.refusal.specs.declared.SectionRelocation.{SectionRelocation}
 use Rattle.section.specs.Section.{section_header_at}
 use Rattle.table_kind.specs.declared.TableKind.TheVariants.{Relocations as RelocationTable}
 use Rattle.table_kind.specs.Kind.{entry_length}
-use Rattle.format.specs.declared.MagicAnswer.{MagicAnswer}
-use Rattle.format.specs.declared.MagicAnswer.TheVariants.{Known, Unknown}
 use Rattle.format.specs.Layout.{magic_field, format_of, section_layout, symbol_length, loader_layout, loader_symbol_length, relocation_layout}
 use Rattle.format.specs.Limit.{file_limit}
 use Rattle.refusal.specs.declared.Refusal.{Refusal}
-use Rattle.refusal.specs.declared.Verdict.TheVariants.{Accepted}
 use Rattle.file_header.specs.declared.FileHeader.{FileHeader}
 use Rattle.file_header.specs.Header.{header_at, section_start, header_check}
 use Rattle.file_header.proofs.Checked.{header-complete}
 use Rattle.loader_header.specs.Header.{loader_header_at}
 use Rattle.offset.specs.declared.Starts.{Starts}
-use Rattle.offset.specs.declared.StartsAnswer.{StartsAnswer}
-use Rattle.offset.specs.declared.StartsAnswer.TheVariants as starts
 use Rattle.offset.specs.Offset.{placed, entry_place, starts_as, starts_of, header_place, symbol_place, loader_symbol_place, relocation_place, section_table, section_relocation_place, loader_starts, offset_in, offset_by, offset_of}
 use Rattle.offset.specs.Named.{Entry, NamesHeader, NamesSymbol, NamesStrings, NamesLoader, NamesLoaderSymbol, NamesRelocation, section_table_start, NamesSectionRelocation, Names, NamedBy, Named, loader_start, loader_of}
 use Rattle.offset.proofs.Found.{starts-known}
+use Rattle.std.specs.Prelude.{None, Ok, Option, Some}
 
 -- ---- causes that name nothing in the file
 
-plain_by : (file : List ℕ) (x : Refusal) → ((s : Starts) → offset_in file s x ≡ 0) → (a : StartsAnswer) → offset_by file a x ≡ 0
-plain_by file x h starts.Unknown = refl
-plain_by file x h (starts.Known s) = h s
+plain_by : (file : List ℕ) (x : Refusal) → ((s : Starts) → offset_in file s x ≡ 0) → (a : Option Starts) → offset_by file a x ≡ 0
+plain_by file x h None = refl
+plain_by file x h (Some s) = h s
 
 pub plain-offset : (file : List ℕ) (x : Refusal) → ((s : Starts) → offset_in file s x ≡ 0) → offset_of file x ≡ 0
 plain-offset file x h = plain_by file x h (starts_of file)
@@ -45,9 +39,9 @@ plain-offset file x h = plain_by file x h (starts_of file)
 pub plain-named : (file : List ℕ) (x : Refusal) → ((s : Starts) → offset_in file s x ≡ 0) → ((h : FileHeader) → offset_of file x ≡ 0 → Names file h x (offset_of file x)) → Named file x
 plain-named file x z n = by (format_of (field_in magic_field 0 file))
   where
-    by : (a : MagicAnswer) → NamedBy file a x
-    by Unknown = plain-offset file x z
-    by (Known f) = n (header_at f file) (plain-offset file x z)
+    by : (a : Option Format) → NamedBy file a x
+    by None = plain-offset file x z
+    by (Some f) = n (header_at f file) (plain-offset file x z)
 
 -- ---- places
 
@@ -76,8 +70,8 @@ from_first f opthdr count len q = let z = zero-mul (section_layout f).length in 
 pub record Headed (file : List ℕ) (f : Format) : Type 0 where
   pub small : length file ≤ file_limit
   pub two : 2 ≤ length file
-  pub magic : format_of (field_in magic_field 0 file) ≡ Known f
-  pub headers : header_check f file ≡ Accepted
+  pub magic : format_of (field_in magic_field 0 file) ≡ Some f
+  pub headers : header_check f file ≡ Ok tt
 
 module _ (file : List ℕ) (f : Format) (g : Headed file f) where
   abbrev h : FileHeader

@@ -1,8 +1,6 @@
 -- What a refusal names is there: request 4's promise on an offset.
-use Rattle.std.specs.Prelude.{ℕ, ◌+◌, ◌-◌, ◌*◌, ◌≤◌, ◌<◌, ◌≡◌, List, length}
+use Rattle.std.specs.Prelude.{ℕ, ◌+◌, ◌-◌, ◌*◌, ◌≤◌, ◌<◌, ◌≡◌, List, length, None, Option, Some}
 use Rattle.word.specs.Number.{field_in}
-use Rattle.format.specs.declared.MagicAnswer.{MagicAnswer}
-use Rattle.format.specs.declared.MagicAnswer.TheVariants.{Known, Unknown}
 use Rattle.format.specs.Layout.{magic_field, format_of, section_layout, symbol_length, loader_symbol_length, relocation_layout}
 use Rattle.refusal.specs.declared.Refusal.{Refusal}
 use Rattle.refusal.specs.declared.Refusal.TheVariants.{Short, Magic, Limit, Kind, Bounds, Address, Strings, Index, Aux, Name, Scnum, Csect, Module, Thread, Loader, Lsym, Lrel, SectionLrel, Overlap, SectionOverlap, Plan, Room, Sheet, Record, Form, Clash, Range, Full, Absent, Long, Shared, Visibility, NoLine, Group}
@@ -23,6 +21,7 @@ use Rattle.file_header.specs.Header.{header_at, section_start}
 use Rattle.loader_header.specs.declared.LoaderHeader.{LoaderHeader}
 use Rattle.loader_header.specs.Header.{loader_header_at}
 use Rattle.offset.specs.Offset.{loader_in, offset_of}
+use Rattle.format.specs.declared.Format.{Format}
 
 -- off is the place of entry k, of n bytes, in a table of `count` entries from start that ends in the file's `len` bytes
 pub record Entry (len start n count k off : ℕ) : Type 0 where
@@ -132,9 +131,9 @@ module _ (file : List ℕ) (h : FileHeader) where
   Names NoLine off = off ≡ 0
   Names Group off = off ≡ 0
 
-abbrev pub NamedBy : List ℕ → MagicAnswer → Refusal → Type 0
-NamedBy file Unknown x = offset_of file x ≡ 0
-NamedBy file (Known f) x = Names file (header_at f file) x (offset_of file x)
+abbrev pub NamedBy : List ℕ → Option Format → Refusal → Type 0
+NamedBy file None x = offset_of file x ≡ 0
+NamedBy file (Some f) x = Names file (header_at f file) x (offset_of file x)
 
 -- the offset of a refusal of the file is where what its item names lies, whole and in its own place: a file without a format names nothing
 abbrev pub Named : List ℕ → Refusal → Type 0

@@ -1,12 +1,10 @@
 -- Where in the file the section header or table entry lies that a refusal's item names.
-use Rattle.std.specs.Prelude.{ℕ, zero, suc, ◌+◌, ◌-◌, ◌*◌, Bool, cond, List, eqb, ltb, length}
+use Rattle.std.specs.Prelude.{ℕ, zero, suc, ◌+◌, ◌-◌, ◌*◌, cond, List, eqb, ltb, length, None, Option, Some}
 use Rattle.word.specs.Number.{field_in}
 use Rattle.word.specs.Test.{past}
 use Rattle.section_kind.specs.declared.SectionKind.TheVariants as kind
 use Rattle.section_kind.specs.Kind.{flags_of}
 use Rattle.format.specs.declared.Format.{Format}
-use Rattle.format.specs.declared.MagicAnswer.{MagicAnswer}
-use Rattle.format.specs.declared.MagicAnswer.TheVariants as magic
 use Rattle.format.specs.Layout.{magic_field, format_of, section_layout, symbol_length, loader_layout, loader_symbol_length, relocation_layout}
 use Rattle.format.specs.Limit.{file_limit}
 use Rattle.refusal.specs.declared.Refusal.{Refusal}
@@ -29,8 +27,6 @@ use Rattle.file_header.specs.Header.{header_at, section_start, header_check}
 use Rattle.loader_header.specs.Header.{symbols_offset, relocations_offset}
 use Rattle.offset.specs.declared.Starts.{Starts}
 use Rattle.offset.specs.declared.LoaderStarts.{LoaderStarts}
-use Rattle.offset.specs.declared.StartsAnswer.{StartsAnswer}
-use Rattle.offset.specs.declared.StartsAnswer.TheVariants.{Known, Unknown}
 
 -- ---- places, 0 where they are not in the file's `len` bytes
 
@@ -73,15 +69,15 @@ starts_as f file =
       lrels = (loader_starts file f l).lrels;
     }
 
-abbrev pub starts_by : List ℕ → MagicAnswer → StartsAnswer
-starts_by file magic.Unknown = Unknown
-starts_by file (magic.Known f) = if_accepted (header_check f file) (Known (starts_as f file)) Unknown
+abbrev pub starts_by : List ℕ → Option Format → Option Starts
+starts_by file None = None
+starts_by file (Some f) = if_accepted (header_check f file) (Some (starts_as f file)) None
 
 -- known once the headers are in the file
-unfoldable pub starts_of : List ℕ → StartsAnswer
+unfoldable pub starts_of : List ℕ → Option Starts
 starts_of file =
-    cond (ltb file_limit (length file)) Unknown
-    (cond (ltb (length file) 2) Unknown
+    cond (ltb file_limit (length file)) None
+    (cond (ltb (length file) 2) None
     (starts_by file (format_of (field_in magic_field 0 file))))
 
 -- ---- the offset of a refusal
@@ -167,9 +163,9 @@ offset_in file s Shared = 0
 offset_in file s NoLine = 0
 offset_in file s Group = 0
 
-abbrev pub offset_by : List ℕ → StartsAnswer → Refusal → ℕ
-offset_by file Unknown x = 0
-offset_by file (Known s) x = offset_in file s x
+abbrev pub offset_by : List ℕ → Option Starts → Refusal → ℕ
+offset_by file None x = 0
+offset_by file (Some s) x = offset_in file s x
 
 abbrev pub offset_of : List ℕ → Refusal → ℕ
 offset_of file x = offset_by file (starts_of file) x

@@ -8,13 +8,11 @@ ghost use Rattle.offset.specs.Offset.{placed, entry_place, loader_in, loader_sta
 ghost use Rattle.offset.specs.Report.{refusal_head, report_head, range_head, report_of_range};
 
 use file_header::FileHeader;
-use format::{Format, MagicAnswer};
-use refusal::{
-    AddressItem, BoundsItem, Head, LimitItem, RangeAnswer, Refusal, SectionRelocation, ThreadItem,
-    Verdict,
-};
+use format::{FileRange, Format};
+use refusal::{AddressItem, BoundsItem, Head, LimitItem, Refusal, SectionRelocation, ThreadItem};
 use section_kind::SectionKind;
 use table_kind::TableKind;
+use word::Width;
 
 // Where a file of `length` bytes keeps what items name.
 #[derive(Clone, Copy)]
@@ -27,12 +25,6 @@ pub struct Starts {
     pub loader: u64,
     pub lsyms: u64,
     pub lrels: u64,
-}
-
-#[derive(Clone, Copy)]
-pub enum StartsAnswer {
-    Known(Starts),
-    Unknown,
 }
 
 // `off` bytes behind `start`, where that is in the file.
@@ -74,15 +66,12 @@ fn loader_start(file: &[u8], h: FileHeader) -> u64
     ensures { result ≡ loader_in file.now h h.nscns }
 {
     let f = h.format;
-    let count = h.nscns;
     let mut start: u64 = 0;
-    let mut i: u64 = 0;
-    while i < count {
+    for i in 0..h.nscns {
         let base = file_header::section_start(f, h.opthdr, i);
         let s = section::read_section_header(file, f, base as usize);
         let p = s.scnptr;
         start = later(s.flags == SectionKind::LOADER, p.0, start);
-        i += 1;
     }
     start
 }
@@ -111,7 +100,7 @@ fn loader_starts(file: &[u8], f: Format, l: u64) -> LoaderStarts
 
 // The starts of a file whose headers are whole.
 fn starts_as(file: &[u8], f: Format) -> Starts
-    requires { (length file.now ≤ file_limit) × (header_check f file.now ≡ Verdict.Accepted) }
+    requires { (length file.now ≤ file_limit) × (header_check f file.now ≡ Ok tt) }
     ensures { result ≡ starts_as f file.now }
 {
     let h = file_header::read_header(file, f);
@@ -132,25 +121,25 @@ fn starts_as(file: &[u8], f: Format) -> Starts
 }
 
 // Where a file keeps what items name: known once its headers are whole.
-fn find_starts(file: &[u8]) -> StartsAnswer
+fn find_starts(file: &[u8]) -> Option<Starts>
     ensures { result ≡ starts_of file.now }
 {
     let len = file.len();
     if format::FILE_LIMIT < len {
-        return StartsAnswer::Unknown;
+        return None;
     }
     if len < 2 {
-        return StartsAnswer::Unknown;
+        return None;
     }
-    let a = format::format_of(word::read_field(file, 0, word::two(0)));
+    let a = format::format_of(word::read_field(file, 0, Width::Two.at(0)));
     match a {
-        MagicAnswer::Unknown => StartsAnswer::Unknown,
-        MagicAnswer::Known(f) => {
+        None => None,
+        Some(f) => {
             let v = file_header::check_header(file, f);
-            if refusal::refuses(v) {
-                return StartsAnswer::Unknown;
+            if v.is_err() {
+                return None;
             }
-            StartsAnswer::Known(starts_as(file, f))
+            Some(starts_as(file, f))
         }
     }
 }
@@ -321,8 +310,8 @@ pub fn offset_of(file: &[u8], x: Refusal) -> u64
 {
     let a = find_starts(file);
     match a {
-        StartsAnswer::Unknown => 0,
-        StartsAnswer::Known(s) => offset_in(file, s, x),
+        None => 0,
+        Some(s) => offset_in(file, s, x),
     }
 }
 
@@ -334,12 +323,12 @@ pub fn refusal_head(file: &[u8], x: Refusal) -> Head
 }
 
 // The head of an answer's report: an offset is looked for in a refusal alone.
-pub fn report_head(file: &[u8], v: Verdict) -> Head
+pub fn report_head(file: &[u8], v: Result<(), Refusal>) -> Head
     ensures { result ≡ report_head file.now v }
 {
     match v {
-        Verdict::Accepted => refusal::accepted_head(),
-        Verdict::Refused(x) => refusal_head(file, x),
+        Ok(()) => refusal::accepted_head(),
+        Err(x) => refusal_head(file, x),
     }
 }
 
@@ -352,16 +341,16 @@ pub struct RangeReport {
     pub length: u64,
 }
 
-fn range_head(file: &[u8], a: RangeAnswer) -> Head
+fn range_head(file: &[u8], a: Result<FileRange, Refusal>) -> Head
     ensures { result ≡ range_head file.now a }
 {
     match a {
-        RangeAnswer::Found(_) => refusal::accepted_head(),
-        RangeAnswer::Refused(x) => refusal_head(file, x),
+        Ok(_) => refusal::accepted_head(),
+        Err(x) => refusal_head(file, x),
     }
 }
 
-pub fn report_range(file: &[u8], a: RangeAnswer) -> RangeReport
+pub fn report_range(file: &[u8], a: Result<FileRange, Refusal>) -> RangeReport
     ensures { result ≡ report_of_range file.now a }
 {
     let head = range_head(file, a);

@@ -1,14 +1,13 @@
 -- The laws of the cells. Assumes nothing.
 use mathlib.Core.Path.{◌≡◌, refl, sym, ◌∙◌, ap, ap₂, subst}
 use mathlib.Core.Logic.{◌⊎◌, inl, inr, ⊎_elim}
-use mathlib.Core.Bool.{Bool, true, false, not}
+use mathlib.Core.Bool.{Bool, true, false}
 use mathlib.Core.List.{List}
 use Prim.Native.Nat.{ℕ, zero, suc, ◌+◌, ◌-◌, ◌≤◌, ◌<◌}
 use native.Mathlib.Decide.{dec_lt, dec_le, ℕ_discrete}
 use native.Mathlib.Numerals.{add-one}
 use native.Mathlib.Omega.{arith}
-use lib.ListN.{length, get_or, set, length-set, get_or-eq_default}
-use lib.Seq.{get_or-set_same, get_or-set_other}
+use lib.ListN.{length, get_or}
 use borrow.Author.Tests.{le-leb, lt-leb, lt-ltb, le-ltb}
 use Rattle.format.specs.declared.Format.{Format}
 use Rattle.parts.specs.declared.Parts.{Parts}
@@ -18,107 +17,7 @@ use Rattle.relocation.specs.Relocation.{bytes_wide, place_at}
 use Rattle.field_overlap.proofs.Readable.{size_of, room}
 use Rattle.field_overlap.proofs.Rule.{no_true, no_false, same_true, same_refl}
 use Rattle.field_overlap.specs.Overlap.{same_bool, Meets, First, Readable}
-use Rattle.overlap.specs.Cells.{code, Taken, Stored, ByteOut, Marked, Free, MarkOut, cover, Hit, CellsAre, StepOut, Untouched, LowerOut, PassOut, NoHitAt, HitSomewhere, SweepOut}
-
-module _ (base k v : ℕ) (c : List ℕ) where
-  pub byte-below : k < base → ByteOut base k v c c false
-  byte-below h = record {
-    size = refl;
-    hit = no_true;
-    miss = λ e. (λ t. absurd (omega (arith, t.low)), record { there = λ x l p. absurd (omega arith); else = λ x l p. refl });
-  }
-
-  pub byte_past : base ≤ k → length c ≤ k - base → ByteOut base k v c c false
-  byte_past h o = record {
-    size = refl;
-    hit = no_true;
-    miss = λ e. (λ t. absurd (omega (arith, t.high)), record { there = λ x l p. absurd (omega arith); else = λ x l p. refl });
-  }
-
-  pub byte-free : base ≤ k → k - base < length c → get_or c (k - base) 0 ≡ 0 → ByteOut base k v c (set c (k - base) v) false
-  byte-free h o z = record {
-    size = length-set c (k - base) v;
-    hit = no_true;
-    miss = λ e. (
-      λ t. t.some z,
-      record {
-        there = λ x l p. let q : x ≡ k - base = omega arith in ap (λ (j : ℕ). get_or (set c (k - base) v) j 0) q ∙ get_or-set_same c (k - base) v 0 o;
-        else = λ x l p. get_or-set_other c (k - base) x v 0 (λ q. p (omega arith));
-      },
-    );
-  }
-
-  pub byte-same : base ≤ k → k - base < length c → get_or c (k - base) 0 ≡ v → ByteOut base k v c c false
-  byte-same h o z = record {
-    size = refl;
-    hit = no_true;
-    miss = λ e. (
-      λ t. t.other z,
-      record {
-        there = λ x l p. let q : x ≡ k - base = omega arith in ap (λ (j : ℕ). get_or c j 0) q ∙ z;
-        else = λ x l p. refl;
-      },
-    );
-  }
-
-  pub byte-taken : base ≤ k → k - base < length c → (get_or c (k - base) 0 ≡ 0 → ⊥) → (get_or c (k - base) 0 ≡ v → ⊥) → ByteOut base k v c c true
-  byte-taken h o z d = record { size = refl; hit = λ e. record { low = h; high = o; some = z; other = d }; miss = no_false }
-
-module _ (base offset : ℕ) (wide : Bool) (c₀ : List ℕ) where
-  pub mark-none : Marked base offset wide 0 c₀ c₀ × Free base offset wide 0 c₀
-  mark-none = (record { size = refl; inside = λ x l a b. absurd (omega arith); outside = λ x l h. refl }, λ q h t. absurd (omega arith))
-
-  -- the next byte is as it was
-  next-same : (p : ℕ) (c : List ℕ) → Marked base offset wide p c₀ c → base ≤ offset + p → offset + p - base < length c₀
-      → get_or c (offset + p - base) 0 ≡ get_or c₀ (offset + p - base) 0
-  next-same p c m h l = m.outside (offset + p - base) l (inr (omega arith))
-
-  taken_back : (p : ℕ) (c : List ℕ) (v : ℕ) → Marked base offset wide p c₀ c → Taken c base (offset + p) v → Taken c₀ base (offset + p) v
-  taken_back p c v m t =
-      let l : offset + p - base < length c₀ = omega (arith, t.high, m.size) in
-      let e = next-same p c m t.low l in
-      record { low = t.low; high = l; some = λ z. t.some (e ∙ z); other = λ z. t.other (e ∙ z) }
-
-  taken-on : (p : ℕ) (c : List ℕ) (v : ℕ) → Marked base offset wide p c₀ c → Taken c₀ base (offset + p) v → Taken c base (offset + p) v
-  taken-on p c v m t =
-      let e = next-same p c m t.low t.high in
-      record { low = t.low; high = omega (arith, t.high, m.size); some = λ z. t.some (sym e ∙ z); other = λ z. t.other (sym e ∙ z) }
-
-  pub mark-turn : (p : ℕ) (c c' : List ℕ) → Marked base offset wide p c₀ c → Free base offset wide p c₀ → ByteOut base (offset + p) (code wide p) c c' false
-      → Marked base offset wide (p + 1) c₀ c' × Free base offset wide (p + 1) c₀
-  mark-turn p c c' m f b =
-      (record { size = b.size ∙ m.size; inside = ins; outside = out }, free)
-    where
-      st : Stored base (offset + p) (code wide p) c c'
-      st = (b.miss refl).1
-
-      ins : (x : ℕ) → x < length c₀ → offset ≤ base + x → base + x < offset + (p + 1) → get_or c' x 0 ≡ code wide (base + x - offset)
-      ins x l a h = go (ℕ_discrete (base + x) (offset + p))
-        where
-          go : Dec (base + x ≡ offset + p) → get_or c' x 0 ≡ code wide (base + x - offset)
-          go (yes e) =
-              let q : p ≡ base + x - offset = omega arith in
-              st.there x (omega (arith, m.size)) e ∙ ap (code wide) q
-          go (no n) = st.else x (omega (arith, m.size)) n ∙ m.inside x l a (omega arith)
-
-      out : (x : ℕ) → x < length c₀ → (base + x < offset) ⊎ (offset + (p + 1) ≤ base + x) → get_or c' x 0 ≡ get_or c₀ x 0
-      out x l h =
-          st.else x (omega (arith, m.size)) (λ e. ⊎_elim (λ a. omega arith) (λ a. omega arith) h)
-          ∙ m.outside x l (⊎_elim (λ a. inl a) (λ a. inr (omega arith)) h)
-
-      free : Free base offset wide (p + 1) c₀
-      free q h t = go (ℕ_discrete q p)
-        where
-          go : Dec (q ≡ p) → ⊥
-          go (yes e) = (b.miss refl).0 (taken-on p c (code wide p) m (subst (λ (j : ℕ). Taken c₀ base (offset + j) (code wide j)) e t))
-          go (no n) = f q (omega arith) t
-
-  pub mark-hit : (p : ℕ) (c c' : List ℕ) → p < bytes_wide wide → Marked base offset wide p c₀ c → ByteOut base (offset + p) (code wide p) c c' true
-      → MarkOut base offset wide c₀ c' true
-  mark-hit p c c' h m b = record { size = b.size ∙ m.size; hit = λ e. (p, h, taken_back p c (code wide p) m (b.hit refl)); miss = no_false }
-
-  mark-end : (c : List ℕ) → Marked base offset wide (bytes_wide wide) c₀ c → Free base offset wide (bytes_wide wide) c₀ → MarkOut base offset wide c₀ c false
-  mark-end c m f = record { size = m.size; hit = no_true; miss = λ e. (f, m) }
+use Rattle.overlap.specs.Cells.{code, Marked, MarkOut, cover, Hit, CellsAre, StepOut, Untouched, LowerOut, PassOut, NoHitAt, HitSomewhere, SweepOut}
 
 -- ---- entries
 
@@ -342,28 +241,6 @@ module _ (r : ℕ → FieldPlace) where
           let y = below i l m.overlap.byte m.overlap.in_b.0 m.overlap.in_b.1 in
           y.none (meets-hit i (λ j v. before b j (omega arith) (omega arith)) m y.base y.size y.low y.high)
 
-pub zero_turn : (c : List ℕ) (i : ℕ) → i < length c → ((x : ℕ) → x < i → get_or c x 0 ≡ 0) → (x : ℕ) → x < i + 1 → get_or (set c i 0) x 0 ≡ 0
-zero_turn c i l h x k = go (ℕ_discrete x i)
-  where
-    go : Dec (x ≡ i) → get_or (set c i 0) x 0 ≡ 0
-    go (yes e) = ap (λ (j : ℕ). get_or (set c i 0) j 0) e ∙ get_or-set_same c i 0 0 l
-    go (no n) = get_or-set_other c i x 0 0 n ∙ h x (omega arith)
-
-pub zero-end : (c : List ℕ) → ((x : ℕ) → x < length c → get_or c x 0 ≡ 0) → (x : ℕ) → get_or c x 0 ≡ 0
-zero-end c h x = go (dec_lt x (length c))
-  where
-    go : Dec (x < length c) → get_or c x 0 ≡ 0
-    go (yes l) = h x l
-    go (no l) = get_or-eq_default c 0 (omega arith)
-
-pub byte-as : {base k v v' : ℕ} {c c' : List ℕ} {r r' : Bool} → v ≡ v' → r ≡ r' → ByteOut base k v c c' r → ByteOut base k v' c c' r'
-byte-as {base} {k} {v} {v'} {c} {c'} {r} {r'} p q b = subst (λ (x : Bool). ByteOut base k v' c c' x) q (subst (λ (x : ℕ). ByteOut base k x c c' r) p b)
-
-pub mark-last : (base offset : ℕ) (wide : Bool) (c₀ c : List ℕ) (p : ℕ) → p ≡ bytes_wide wide → Marked base offset wide p c₀ c → Free base offset wide p c₀
-    → MarkOut base offset wide c₀ c false
-mark-last base offset wide c₀ c p e m f =
-    mark-end base offset wide c₀ c (subst (λ (x : ℕ). Marked base offset wide x c₀ c) e m) (subst (λ (x : ℕ). Free base offset wide x c₀) e f)
-
 pub cells-none : (r : ℕ → FieldPlace) (t : Bool) (base : ℕ) (c : List ℕ) → ((x : ℕ) → get_or c x 0 ≡ 0) → CellsAre r t base 0 c
 unfolding cover
 cells-none r t base c h x l = h x
@@ -378,9 +255,6 @@ module _ (r : ℕ → FieldPlace) where
       go (no d) = h j (omega arith) y
 
   -- windows
-  pub sweep-none : (t : Bool) (n : ℕ) → SweepOut r t 0 n n
-  sweep-none t n = record { within = omega arith; before = λ i l k h. absurd (omega arith); here = λ l. absurd (omega arith) }
-
   pub sweep-turn : (t : Bool) (base w n b x next : ℕ) → SweepOut r t base n b → PassOut r t base w b x next → SweepOut r t next n x
   sweep-turn t base w n b x next s p = record { within = omega (arith, s.within, p.within); before = before; here = here }
     where
@@ -407,9 +281,6 @@ module _ (r : ℕ → FieldPlace) where
           go (no u) =
               let e : b ≡ x = omega (arith, p.within) in
               subst (λ (y : ℕ). HitSomewhere r y) e (s.here (omega arith))
-
-  pub sweep-end : (t : Bool) (base upto n x : ℕ) → upto ≤ base → SweepOut r t base n x → SweepOut r t upto n x
-  sweep-end t base upto n x h s = record { within = s.within; before = λ i l k u. s.before i l k (omega arith); here = s.here }
 
   two-sweeps : (n a x s s' : ℕ) → SweepOut r true s n a → SweepOut r false s' a x
       → ((i : ℕ) → i < n → ((r i).offset + bytes_wide (r i).wide ≤ s) ⊎ ((r i).text ≡ true → ⊥))
@@ -492,11 +363,6 @@ module _ (r : ℕ → FieldPlace) where
         further = so.further;
         skipped = λ j l. so.skipped j (omega arith);
       })
-
--- a field of the other section does not lower where the next window may start
-pub lower-other : (e : FieldPlace) (t : Bool) (end next : ℕ) (s : Bool) → end ≤ next → s ≡ same_bool e.text t → not s ≡ true → LowerOut e t end next next
-lower-other e t end next true h q n = no_true n
-lower-other e t end next false h q n = record { low = h; high = omega arith; none = λ s k a b o l. no_true (q ∙ same_refl e.text t s) }
 
 -- ---- the entries of a file
 

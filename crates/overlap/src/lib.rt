@@ -56,13 +56,11 @@ fn mark(cells: &mut [u8], base: u64, offset: u64, wide: bool) -> bool
     ensures { MarkOut base offset wide cells.old cells.new result }
 {
     let w = relocation::bytes_wide(wide);
-    let mut place = 0;
-    while place < w {
+    for place in 0..w {
         let v = code_of(wide, place);
         if mark_byte(cells, base, offset + place, v) {
             return true;
         }
-        place += 1;
     }
     false
 }
@@ -71,11 +69,7 @@ fn mark(cells: &mut [u8], base: u64, offset: u64, wide: bool) -> bool
 fn clear(cells: &mut [u8])
     ensures { Zeros cells.old cells.new }
 {
-    let mut i = 0;
-    while i < cells.len() {
-        cells[i] = 0;
-        i += 1;
-    }
+    cells.fill(0);
 }
 
 fn same_section(a: bool, b: bool) -> bool
@@ -136,14 +130,12 @@ fn pass(
     clear(cells);
     let end = base + cells.len() as u64;
     let mut next = limit;
-    let mut i = 0;
-    while i < n {
+    for i in 0..n {
         let e = relocation::place_at(file, f, p, t, i);
         if step(e, text, base, cells) {
             return PassAnswer { first: i, next };
         }
         next = lower(e, text, end, next);
-        i += 1;
     }
     PassAnswer { first: n, next }
 }

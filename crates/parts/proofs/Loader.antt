@@ -9,8 +9,6 @@ use borrow.Author.Tests.{eqb-true, ne_eqb}
 use lib.Dec.{eqb}
 use lib.ListN.{length, get_or}
 use Rattle.word.proofs.Test.{either}
-use Rattle.section_kind.specs.declared.KindAnswer.{KindAnswer}
-use Rattle.section_kind.specs.declared.KindAnswer.TheVariants.{Allowed, NotAllowed}
 use Rattle.section_kind.specs.declared.SectionKind.{SectionKind}
 use Rattle.section_kind.specs.declared.SectionKind.TheVariants.{Loader}
 use Rattle.section_kind.specs.Kind.{flags_of, kind_of}
@@ -18,11 +16,8 @@ use Rattle.section_kind.proofs.List.{loader-flags}
 use Rattle.format.specs.declared.FileOffset.{FileOffset}
 use Rattle.format.specs.declared.Format.{Format}
 use Rattle.format.specs.declared.SectionNumber.{SectionNumber}
-use Rattle.refusal.specs.declared.Verdict.TheVariants as verdict
 use Rattle.refusal.proofs.Order.{not-accepted}
 use Rattle.section.specs.declared.Section.{Section}
-use Rattle.section.specs.declared.SectionAnswer.{SectionAnswer}
-use Rattle.section.specs.declared.SectionAnswer.TheVariants as answer
 use Rattle.section.specs.declared.SectionHeader.{SectionHeader}
 use Rattle.section.specs.Section.{section_header_at, has_raw_data, raw_data_past, misplaced, section_of, judge_kind, judge_section}
 use Rattle.file_header.specs.declared.FileHeader.{FileHeader}
@@ -35,21 +30,23 @@ use Rattle.header.proofs.Accepted.{opened_inside}
 use Rattle.header.proofs.Named.{Opens, count-is, section-accepted, section-is}
 use Rattle.parts.proofs.Tallied.{tally-few}
 use Rattle.parts.specs.Sections.{flag_at, tally, tally_of, part_at}
+use Rattle.std.specs.Prelude.{Err, None, Ok, Option, Result, Some}
+use Rattle.refusal.specs.declared.Refusal.{Refusal}
 
 -- what an accepted section's record keeps of its header
-abbrev Kept : SectionHeader → SectionAnswer → Type 0
-Kept s (answer.Found r) = (r.scnptr ≡ s.scnptr) × ((eqb (flags_of r.kind) (flags_of Loader) ≡ eqb s.flags (flags_of Loader)) × (r.raw ≡ has_raw_data r.kind s))
-Kept s (answer.Refused x) = Unit {0}
+abbrev Kept : SectionHeader → Result Section Refusal → Type 0
+Kept s (Ok r) = (r.scnptr ≡ s.scnptr) × ((eqb (flags_of r.kind) (flags_of Loader) ≡ eqb s.flags (flags_of Loader)) × (r.raw ≡ has_raw_data r.kind s))
+Kept s (Err x) = Unit {0}
 
-kept-kind : (f : Format) (len : ℕ) (s : SectionHeader) (n : SectionNumber) (a : KindAnswer) → kind_of s.flags ≡ a → Kept s (judge_kind f len s n a)
+kept-kind : (f : Format) (len : ℕ) (s : SectionHeader) (n : SectionNumber) (a : Option SectionKind) → kind_of s.flags ≡ a → Kept s (judge_kind f len s n a)
 unfolding judge_kind section_of
-kept-kind f len s n NotAllowed e = tt
-kept-kind f len s n (Allowed k) e =
+kept-kind f len s n None e = tt
+kept-kind f len s n (Some k) e =
     either (Kept s) (raw_data_past k len s) (λ _. tt) (λ _. either (Kept s) (misplaced f k s) (λ _. tt) (λ _. (refl, (loader-flags s.flags k e, refl))))
 
-kept-found : (s : SectionHeader) (a : SectionAnswer) → Kept s a → verdict_of a ≡ verdict.Accepted → Kept s (answer.Found (record_of a))
-kept-found s (answer.Found r) k e = k
-kept-found s (answer.Refused x) k e = not-accepted e
+kept-found : (s : SectionHeader) (a : Result Section Refusal) → Kept s a → verdict_of a ≡ Ok tt → Kept s (Ok (record_of a))
+kept-found s (Ok r) k e = k
+kept-found s (Err x) k e = not-accepted e
 
 -- a section with the loader's flag and a pointer has raw data
 has-raw : (k : SectionKind) (s : SectionHeader) → flags_of k ≡ flags_of Loader → (s.scnptr.0 ≡ 0 → ⊥) → has_raw_data k s ≡ true
@@ -70,7 +67,7 @@ module _ (file : List ℕ) (o : Opens file) where
   abbrev s : ℕ → SectionHeader
   s i = section_header_at h.format (section_start h.format h.opthdr i) file
 
-  kept : (i : ℕ) → i < h.nscns → Kept (s i) (answer.Found (get_or sections i blank_section))
+  kept : (i : ℕ) → i < h.nscns → Kept (s i) (Ok (get_or sections i blank_section))
   unfolding judged_at judge_section
   kept i p =
       rw (section-is file o i p)
@@ -102,7 +99,7 @@ module _ (file : List ℕ) (o : Opens file) where
   start-inside : (i : ℕ) → i < h.nscns → flag_at sections i ≡ flags_of Loader → (get_or sections i blank_section).scnptr.0 ≤ length file
   start-inside i p e = by (ℕ_discrete (get_or sections i blank_section).scnptr.0 0)
     where
-      k : Kept (s i) (answer.Found (get_or sections i blank_section))
+      k : Kept (s i) (Ok (get_or sections i blank_section))
       k = kept i p
 
       by : Dec ((get_or sections i blank_section).scnptr.0 ≡ 0) → (get_or sections i blank_section).scnptr.0 ≤ length file

@@ -10,13 +10,13 @@ use borrow.Author.Tests.{eqb-true}
 use Rattle.word.proofs.Test.{and_first, and_second}
 use Rattle.refusal.specs.declared.Refusal.TheVariants.{Thread}
 use Rattle.refusal.specs.declared.ThreadItem.TheVariants.{ThreadSection}
-use Rattle.refusal.specs.declared.Verdict.TheVariants.{Refused}
 use Rattle.refusal.specs.Refusal.{is_refused}
 use Rattle.refusal.proofs.Order.{refused-if}
 use Rattle.section.specs.declared.Section.{Section}
 use Rattle.header.specs.declared.Summary.{Summary}
 use Rattle.parts.specs.declared.Tallies.{Tallies}
 use Rattle.parts.specs.Sections.{flag_at, tally, tally_of, tallies_of, one_each, thread_at}
+use Rattle.std.specs.Prelude.{Err}
 
 -- one section more
 pub tally-more : (sections : List Section) (flag i : ℕ) {b : Bool} → b ≡ eqb (flag_at sections i) flag → cond b (record { count = (tally sections flag i).count + 1; last = i + 1 }) (tally sections flag i) ≡ tally sections flag (i + 1)
@@ -107,6 +107,6 @@ pub thread-told : (sections : List Section) (i : ℕ) {b : Bool} → b ≡ (eqb 
 unfolding thread_at
 thread-told sections i e = rw (← e) (refused-if _ _)
 
-pub thread-refused : (sections : List Section) (i : ℕ) → (eqb (flag_at sections i) 0x0400 || eqb (flag_at sections i) 0x0800) ≡ true → thread_at sections i ≡ Refused (Thread (ThreadSection (record { 0 = i + 1 })))
+pub thread-refused : (sections : List Section) (i : ℕ) → (eqb (flag_at sections i) 0x0400 || eqb (flag_at sections i) 0x0800) ≡ true → thread_at sections i ≡ Err (Thread (ThreadSection (record { 0 = i + 1 })))
 unfolding thread_at
 thread-refused sections i e = rw e

@@ -3,7 +3,6 @@ use Rattle.std.specs.Prelude.{ℕ, zero, suc, ◌+◌, ◌-◌, Bool, cond, ◌&
 use Rattle.section_kind.specs.Kind.{flags_of}
 use Rattle.refusal.specs.declared.Refusal.TheVariants.{Thread}
 use Rattle.refusal.specs.declared.ThreadItem.TheVariants.{ThreadSection}
-use Rattle.refusal.specs.declared.Verdict.{Verdict}
 use Rattle.refusal.specs.Order.{refuse_if, first_of}
 use Rattle.section.specs.declared.Section.{Section}
 use Rattle.header.specs.declared.Summary.{Summary}
@@ -13,6 +12,7 @@ use Rattle.parts.specs.declared.Tallies.{Tallies}
 use Rattle.parts.specs.declared.Part.{Part}
 use Rattle.parts.specs.declared.Parts.{Parts}
 use Rattle.section_kind.specs.declared.SectionKind.TheVariants.{Text, Data, Bss, Loader, Tdata, Tbss}
+use Rattle.refusal.specs.Verdict.{Verdict}
 
 -- the flag of the kind of the section with index i
 abbrev pub flag_at : List Section → ℕ → ℕ

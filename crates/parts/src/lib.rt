@@ -8,7 +8,7 @@ ghost use Rattle.parts.specs.Sections.{tally, tallies_of, one_each, part_at, par
 
 use format::{FileOffset, SectionNumber, VirtualAddress};
 use header::Summary;
-use refusal::{Refusal, ThreadItem, Verdict};
+use refusal::{Refusal, ThreadItem};
 use section::Section;
 use section_kind::SectionKind;
 
@@ -56,12 +56,8 @@ fn tally_kind(sections: [Section; 32], flag: u64, count: u64) -> Tally
     ensures { result ≡ tally sections flag count }
 {
     let mut t = Tally { count: 0, last: 0 };
-    let mut i: u64 = 0;
-    while i < count {
-        let s = sections[i as usize];
-        let k = s.kind;
-        t = tally_step(t, k.flags() == flag, i);
-        i += 1;
+    for (i, s) in sections[..count as usize].iter().enumerate() {
+        t = tally_step(t, s.kind.flags() == flag, i as u64);
     }
     t
 }
@@ -152,20 +148,14 @@ fn is_thread(k: u64) -> bool
 }
 
 // THREAD with the first tdata or tbss section.
-pub fn check_thread(sections: [Section; 32], count: u64) -> Verdict
+pub fn check_thread(sections: [Section; 32], count: u64) -> Result<(), Refusal>
     requires { count ≤ section_limit }
     ensures { result ≡ first_of (thread_at sections) 0 count }
 {
-    let mut i: u64 = 0;
-    while i < count {
-        let s = sections[i as usize];
-        let k = s.kind;
-        if is_thread(k.flags()) {
-            return Verdict::Refused(Refusal::Thread(ThreadItem::ThreadSection(SectionNumber(
-                i + 1,
-            ))));
+    for (i, s) in sections[..count as usize].iter().enumerate() {
+        if is_thread(s.kind.flags()) {
+            return Err(Refusal::Thread(ThreadItem::ThreadSection(SectionNumber(i as u64 + 1))));
         }
-        i += 1;
     }
-    Verdict::Accepted
+    Ok(())
 }

@@ -12,8 +12,6 @@ use Rattle.format.specs.Layout.{address_limit}
 use Rattle.refusal.specs.declared.PlanItem.TheVariants.{TextAddress, DataAddress, ImportAddress}
 use Rattle.refusal.specs.declared.RoomItem.TheVariants.{AddressList}
 use Rattle.refusal.specs.declared.Refusal.TheVariants as refusal
-use Rattle.refusal.specs.declared.Verdict.{Verdict}
-use Rattle.refusal.specs.declared.Verdict.TheVariants.{Accepted, Refused}
 use Rattle.refusal.specs.Refusal.{is_refused}
 use Rattle.refusal.specs.Order.{◌or_else◌, refuse_if, first_of}
 use Rattle.refusal.proofs.Order.{accepted-equal, first-stop}
@@ -25,6 +23,8 @@ use Rattle.history.specs.Plan.{Plan, fits, list_room, list_check, address_check,
 use Rattle.plan.specs.Relocatable.{followed_at, relocatable_of}
 use Rattle.plan.proofs.Symbols.{length_symbols, symbol-at, OwnPlace, own-place-at}
 use Rattle.plan.proofs.Raw.{length-raw-text, length-raw-data}
+use Rattle.std.specs.Prelude.{Err, Ok}
+use Rattle.refusal.specs.Verdict.{Verdict}
 
 -- ---- an address and a size below a limit
 
@@ -50,17 +50,17 @@ fits_by last a size h p = rw (lt-ltb a (last + 1) (omega arith)) (by_end (dec_le
 -- ---- the list
 
 -- a list with an address for each loader symbol is accepted
-pub list-whole : (n k : ℕ) → k ≡ n → Accepted ≡ list_room n k
+pub list-whole : (n k : ℕ) → k ≡ n → (Ok tt) ≡ list_room n k
 unfolding list_room
 list-whole n k e = rw (eq-eqb k n e) refl
 
 -- any other list is refused
-pub list-other : (n k : ℕ) → (k ≡ n → ⊥) → Refused (refusal.Room AddressList) ≡ list_room n k
+pub list-other : (n k : ℕ) → (k ≡ n → ⊥) → Err (refusal.Room AddressList) ≡ list_room n k
 unfolding list_room
 list-other n k e = rw (ne_eqb k n e) refl
 
 -- a list that is accepted has an address for each
-pub list-accepted : (n k : ℕ) → list_room n k ≡ Accepted → k ≡ n
+pub list-accepted : (n k : ℕ) → list_room n k ≡ Ok tt → k ≡ n
 unfolding list_room
 list-accepted n k e = accepted-equal k n (refusal.Room AddressList) e
 
@@ -73,7 +73,7 @@ list-check file l p = ap (λ (n : ℕ). list_room n (length p.list)) (length_sym
 
 module _ (limit : ℕ) (list : List ℕ) (i k : ℕ) where
   -- an address below the limit is accepted
-  address_below : (f : Followed) → OwnPlace k f → get_or list k 0 < limit → address_check limit list i f ≡ Accepted
+  address_below : (f : Followed) → OwnPlace k f → get_or list k 0 < limit → address_check limit list i f ≡ Ok tt
   unfolding address_check
   address_below followed.Text o h = refl
   address_below followed.Data o h = refl
@@ -86,13 +86,13 @@ module _ (limit : ℕ) (list : List ℕ) (i k : ℕ) where
   address_above j v o h = rw (o, le-ltb (get_or list k 0) limit h) refl
 
   -- a refusal names the symbol's index
-  address-named : (f : Followed) → is_refused (address_check limit list i f) ≡ true → Refused (refusal.Plan (ImportAddress i)) ≡ address_check limit list i f
+  address-named : (f : Followed) → is_refused (address_check limit list i f) ≡ true → Err (refusal.Plan (ImportAddress i)) ≡ address_check limit list i f
   unfolding address_check
   address-named followed.Text e = cc
   address-named followed.Data e = cc
   address-named (followed.Import j v) e = by-test (not (ltb (get_or list j 0) limit)) e
     where
-      by-test : (b : Bool) → is_refused (refuse_if b (refusal.Plan (ImportAddress i))) ≡ true → Refused (refusal.Plan (ImportAddress i)) ≡ refuse_if b (refusal.Plan (ImportAddress i))
+      by-test : (b : Bool) → is_refused (refuse_if b (refusal.Plan (ImportAddress i))) ≡ true → Err (refusal.Plan (ImportAddress i)) ≡ refuse_if b (refusal.Plan (ImportAddress i))
       by-test true q = refl
       by-test false q = cc
   address-named followed.Nothing e = cc
@@ -108,7 +108,7 @@ module _ (file : List ℕ) (l : Loadable) (list : List ℕ) (k : ℕ) (h : k < l
   import-below b = rw (import-file, address_below _ list (k + 3) k (followed_at file l k) (own-place-at file l k) b) refl
 
   -- none is refused that follows something else than its own address
-  pub import-other : (f : Followed) → followed_at file l k ≡ f → address_check (address_limit l.layout.format) list (k + 3) f ≡ Accepted
+  pub import-other : (f : Followed) → followed_at file l k ≡ f → address_check (address_limit l.layout.format) list (k + 3) f ≡ Ok tt
       → false ≡ is_refused (import_check (relocatable_of file l) list k)
   import-other f e a = rw (import-file, e, a) refl
 
@@ -118,13 +118,13 @@ module _ (file : List ℕ) (l : Loadable) (list : List ℕ) (k : ℕ) (h : k < l
   import-above j v e b = rw (import-file, e) (sym (address_above _ list (k + 3) k j v (rw e at (own-place-at file l k)) b))
 
   -- a refusal names the symbol's index
-  import-named : is_refused (import_check (relocatable_of file l) list k) ≡ true → Refused (refusal.Plan (ImportAddress (k + 3))) ≡ import_check (relocatable_of file l) list k
+  import-named : is_refused (import_check (relocatable_of file l) list k) ≡ true → Err (refusal.Plan (ImportAddress (k + 3))) ≡ import_check (relocatable_of file l) list k
   import-named e = rw import-file (address-named _ list (k + 3) k (followed_at file l k) (rw import-file at e))
 
   -- the loop over the symbols stops at k, the first that is refused
   pub imports-stop : first_of (import_check (relocatable_of file l) list) 0 l.tables.nsyms ≡ first_of (import_check (relocatable_of file l) list) k (l.tables.nsyms - k)
       → is_refused (import_check (relocatable_of file l) list k) ≡ true
-      → Refused (refusal.Plan (ImportAddress (k + 3))) ≡ first_of (import_check (relocatable_of file l) list) 0 l.tables.nsyms
+      → Err (refusal.Plan (ImportAddress (k + 3))) ≡ first_of (import_check (relocatable_of file l) list) 0 l.tables.nsyms
   imports-stop q e = import-named e ∙ sym (q ∙ first-stop (import_check (relocatable_of file l) list) l.tables.nsyms k h e)
 
 -- ---- the whole check
@@ -146,11 +146,11 @@ module _ (file : List ℕ) (l : Loadable) (p : Plan) where
   -- the plan's check, where t tells whether the text image fits, and d whether the data image does
   module _ (v : Valid file l) {limit : ℕ} (e : limit ≡ address_limit l.layout.format) {t : Bool} (et : t ≡ fits limit p.text l.layout.parts.text.size) where
     -- a text image that does not fit is refused
-    pub text-refused : not t ≡ true → Refused (refusal.Plan TextAddress) ≡ fit_check (relocatable_of file l) p
+    pub text-refused : not t ≡ true → Err (refusal.Plan TextAddress) ≡ fit_check (relocatable_of file l) p
     text-refused nt = rw (sizes-check v, ← e, ← et, nt) refl
 
     -- then a data image that does not fit
-    pub data-refused : {d : Bool} → not t ≡ false → d ≡ fits limit p.dat l.layout.image → not d ≡ true → Refused (refusal.Plan DataAddress) ≡ fit_check (relocatable_of file l) p
+    pub data-refused : {d : Bool} → not t ≡ false → d ≡ fits limit p.dat l.layout.image → not d ≡ true → Err (refusal.Plan DataAddress) ≡ fit_check (relocatable_of file l) p
     data-refused nt ed nd = rw (sizes-check v, ← e, ← et, nt, ← ed, nd) refl
 
     -- where both fit, the imports decide

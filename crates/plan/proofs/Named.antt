@@ -14,8 +14,6 @@ use Rattle.refusal.specs.declared.RoomItem.TheVariants.{TextBuffer, DataBuffer, 
 use Rattle.refusal.proofs.Causes.{Causes, cause-if, cause-test, cause-then, cause-first}
 use Rattle.offset.specs.Named.{Named}
 use Rattle.offset.proofs.Named.{plain-named}
-use Rattle.loadable.specs.declared.LoadableAnswer.{LoadableAnswer}
-use Rattle.loadable.specs.declared.LoadableAnswer.TheVariants as loadable
 use Rattle.loadable.specs.Loadable.{loadable_at}
 use Rattle.loadable.proofs.Named.{LoadableCauses, loadable-named}
 use Rattle.history.specs.declared.Followed.{Followed}
@@ -23,6 +21,8 @@ use Rattle.history.specs.declared.Followed.TheVariants as followed
 use Rattle.history.specs.Plan.{Relocatable, Plan, limit_of, list_room, list_check, fits, address_check, import_check, fit_check, plan_check}
 use Rattle.history.specs.Call.{Call, build, move, buffer_room, room_check, call_check}
 use Rattle.plan.specs.Relocatable.{relocatable_of, no_module, relocatable_by, relocatable_at}
+use Rattle.std.specs.Prelude.{Err, Ok, Result}
+use Rattle.loadable.specs.declared.Loadable.{Loadable}
 
 -- ---- of any module, where its own refusal is named
 
@@ -81,9 +81,9 @@ verdict-named : (file : List ℕ) → Causes (Named file) (relocatable_at file).
 unfolding relocatable_at relocatable_by relocatable_of no_module
 verdict-named file = by (loadable_at file) (loadable-named file)
   where
-    by : (a : LoadableAnswer) → LoadableCauses (Named file) a → Causes (Named file) (relocatable_by file a).verdict
-    by (loadable.Found l) c = tt
-    by (loadable.Refused x) c = c
+    by : (a : Result Loadable Refusal) → LoadableCauses (Named file) a → Causes (Named file) (relocatable_by file a).verdict
+    by (Ok l) c = tt
+    by (Err x) c = c
 
 pub plan-named : (file : List ℕ) (p : Plan) → Causes (Named file) (plan_check (relocatable_at file) p)
 plan-named file p = plan-named-by file (relocatable_at file) (verdict-named file) p

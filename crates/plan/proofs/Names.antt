@@ -12,13 +12,11 @@ use borrow.Author.Tests.{eq-eqb, ne_eqb, eqb-true, eqb-false, not-false}
 use Rattle.word.proofs.Test.{either, and_first, and_second}
 use Rattle.format.specs.declared.SectionNumber.{SectionNumber}
 use Rattle.refusal.specs.declared.Refusal.TheVariants.{Lsym}
-use Rattle.refusal.specs.declared.Verdict.TheVariants.{Accepted}
 use Rattle.refusal.proofs.Order.{accepted-test}
 use Rattle.parts.specs.declared.Parts.{Parts}
 use Rattle.loader_symbol.specs.declared.LoaderEntry.{LoaderEntry}
 use Rattle.loader_symbol.specs.Symbol.{entry_start, is_imported, is_placed, is_found, name_in, entry_check, symbol_check}
 use Rattle.loadable.specs.declared.Loadable.{Loadable}
-use Rattle.loadable.specs.declared.LoadableAnswer.TheVariants as loadable
 use Rattle.loadable.specs.Loadable.{loadable_at}
 use Rattle.loadable.specs.Valid.{Valid}
 use Rattle.loadable.proofs.Accepted.{loadable-valid}
@@ -31,6 +29,7 @@ use Rattle.history.proofs.Follows.{symbols-follow}
 use Rattle.plan.specs.Relocatable.{followed_of, followed_in, followed_at, symbols_from, relocatable_of, relocatable_by, relocatable_at}
 use Rattle.plan.specs.Follows.{DefinedIn, IsImport, symbol_at, SymbolIn, InCommonBut}
 use Rattle.plan.proofs.Symbols.{length_symbols, symbol-at}
+use Rattle.std.specs.Prelude.{Ok}
 
 -- ---- what a loader symbol follows, by its fields
 
@@ -103,7 +102,7 @@ module _ (file : List ℕ) (l : Loadable) (v : Valid file l) where
       → DefinedIn l.layout.parts.«data» (symbol_at file l k) ⊎ DefinedIn l.layout.parts.bss (symbol_at file l k)
   other-section k h = placed-other l.layout.parts l.tables.nimpid (symbol_at file l k) (placed (v.loader.symbols k h))
     where
-      placed : symbol_check file l.layout.format l.layout.parts l.tables k ≡ Accepted → is_placed l.layout.parts l.tables.nimpid (symbol_at file l k) ≡ true
+      placed : symbol_check file l.layout.format l.layout.parts l.tables k ≡ Ok tt → is_placed l.layout.parts l.tables.nimpid (symbol_at file l k) ≡ true
       placed a = unfold symbol_check entry_check in
           (let e = symbol_at file l k in
           let few = ltb (e.smtype % 8) 4 in
@@ -147,12 +146,12 @@ module _ (file : List ℕ) (l : Loadable) (v : Valid file l) where
       ((symbol_at file l k).value, loader-symbol file l i k (followed.Import k (symbol_at file l k).value) s.0 s.1 (says-import _ k (symbol_at file l k) s.2))
 
 -- an accepted module is what it is to builds and moves
-accepted-module : (file : List ℕ) (l : Loadable) → loadable_at file ≡ loadable.Found l → relocatable_at file ≡ relocatable_of file l
+accepted-module : (file : List ℕ) (l : Loadable) → loadable_at file ≡ Ok l → relocatable_at file ≡ relocatable_of file l
 unfolding relocatable_at relocatable_by
 accepted-module file l e = rw e refl
 
 -- the symbols of an address are text and those defined in text; data, bss and those defined in either; the import, not deferred
-pub symbols-file : (file : List ℕ) (l : Loadable) → loadable_at file ≡ loadable.Found l → (a : PlanAddress) (i : ℕ)
+pub symbols-file : (file : List ℕ) (l : Loadable) → loadable_at file ≡ Ok l → (a : PlanAddress) (i : ℕ)
     → SymbolOf a (relocatable_at file) i ↔ SymbolIn file l a i
 symbols-file file l q a i =
     rw (accepted-module file l q) (symbol-in file l (loadable-valid file l q) a i, in-symbol file l (loadable-valid file l q) a i)
@@ -202,7 +201,7 @@ module _ (file : List ℕ) (l : Loadable) (v : Valid file l) (p q : Plan) where
   common-agree (of_import j) c = (c.0, c.1, λ i n. table-symbols i (λ k w e h d. c.2 k h d (λ z. n (w, e ∙ ap (λ (x : ℕ). followed.Import x w) z))))
 
 -- plans that agree but in an address are those that have the others in common: of the imports, those of the table that are not deferred
-pub agree-file : (file : List ℕ) (l : Loadable) → loadable_at file ≡ loadable.Found l → (a : PlanAddress) (p q : Plan)
+pub agree-file : (file : List ℕ) (l : Loadable) → loadable_at file ≡ Ok l → (a : PlanAddress) (p q : Plan)
     → AgreeBut a (relocatable_at file) p q ↔ InCommonBut file l a p q
 agree-file file l e a p q =
     rw (accepted-module file l e) (agree-common file l (loadable-valid file l e) p q a, common-agree file l (loadable-valid file l e) p q a)

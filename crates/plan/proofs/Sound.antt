@@ -7,8 +7,6 @@ use native.Mathlib.Omega.{arith}
 use Rattle.relocation.specs.Relocation.{place_at}
 use Rattle.field_overlap.specs.Overlap.{Compatible}
 use Rattle.loadable.specs.declared.Loadable.{Loadable}
-use Rattle.loadable.specs.declared.LoadableAnswer.{LoadableAnswer}
-use Rattle.loadable.specs.declared.LoadableAnswer.TheVariants as loadable
 use Rattle.loadable.specs.Loadable.{loadable_at}
 use Rattle.loadable.specs.Valid.{Valid}
 use Rattle.loadable.proofs.Accepted.{loadable-valid}
@@ -18,6 +16,8 @@ use Rattle.history.specs.Plan.{Sound}
 use Rattle.history.proofs.Demand3.{no-entries-sound}
 use Rattle.plan.specs.Relocatable.{relocation_at, relocations_from, relocatable_of, no_module, relocatable_by, relocatable_at}
 use Rattle.plan.proofs.Raw.{length-raw-text, length-raw-data}
+use Rattle.std.specs.Prelude.{Err, Ok, Result}
+use Rattle.refusal.specs.declared.Refusal.{Refusal}
 
 module _ (file : List ℕ) (l : Loadable) where
   -- what holds of each entry holds of all
@@ -70,10 +70,10 @@ module _ (file : List ℕ) (l : Loadable) (v : Valid file l) where
       pairs = unfold relocatable_of in pairwise-from file l 0 l.tables.nreloc (λ j k a b c. entries-apart j k b (omega arith))
 
 -- by the answer: a refused file has no entries
-answer-sound : (file : List ℕ) (a : LoadableAnswer) → loadable_at file ≡ a → Sound (relocatable_by file a)
+answer-sound : (file : List ℕ) (a : Result Loadable Refusal) → loadable_at file ≡ a → Sound (relocatable_by file a)
 unfolding relocatable_by
-answer-sound file (loadable.Found l) e = valid-sound file l (loadable-valid file l e)
-answer-sound file (loadable.Refused x) e = no-entries-sound (no_module x) (unfold no_module in refl)
+answer-sound file (Ok l) e = valid-sound file l (loadable-valid file l e)
+answer-sound file (Err x) e = no-entries-sound (no_module x) (unfold no_module in refl)
 
 -- every file is sound
 pub relocatable-sound : (file : List ℕ) → Sound (relocatable_at file)

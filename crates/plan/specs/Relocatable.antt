@@ -1,5 +1,5 @@
 -- The module in a file as builds and moves see it.
-use Rattle.std.specs.Prelude.{ℕ, zero, suc, ◌+◌, ◌-◌, ◌*◌, cond, List, [], ◌∷◌, ◌++◌, eqb, replicate}
+use Rattle.std.specs.Prelude.{ℕ, zero, suc, ◌+◌, ◌-◌, ◌*◌, cond, List, [], ◌∷◌, ◌++◌, eqb, replicate, Err, Ok, Result}
 use Rattle.format.specs.declared.FileOffset.{FileOffset}
 use Rattle.format.specs.declared.Format.{Format}
 use Rattle.format.specs.declared.SectionNumber.{SectionNumber}
@@ -7,7 +7,6 @@ use Rattle.format.specs.declared.Format.TheVariants.{Xcoff32}
 use Rattle.format.specs.Layout.{loader_symbol_length}
 use Rattle.format.specs.Range.{range, bytes_of}
 use Rattle.refusal.specs.declared.Refusal.{Refusal}
-use Rattle.refusal.specs.declared.Verdict.TheVariants as verdict
 use Rattle.module.specs.declared.Anchor.{Anchor}
 use Rattle.module.specs.declared.Module.{Module}
 use Rattle.parts.specs.declared.Parts.{Parts}
@@ -16,8 +15,6 @@ use Rattle.loader_symbol.specs.Symbol.{entry_at, is_imported}
 use Rattle.relocation.specs.declared.RelocationEntry.{RelocationEntry}
 use Rattle.relocation.specs.Relocation.{entry_in, place_at, place_of, subtracts}
 use Rattle.loadable.specs.declared.Loadable.{Loadable}
-use Rattle.loadable.specs.declared.LoadableAnswer.{LoadableAnswer}
-use Rattle.loadable.specs.declared.LoadableAnswer.TheVariants as loadable
 use Rattle.loadable.specs.Loadable.{loadable_at}
 use Rattle.history.specs.declared.Followed.{Followed}
 use Rattle.history.specs.declared.Followed.TheVariants as followed
@@ -75,7 +72,7 @@ anchored p a = cond (eqb a.section.0 0) none (cond (eqb a.section.0 p.text.numbe
 unfoldable pub relocatable_of : List ℕ → Loadable → Relocatable
 relocatable_of file l =
     record {
-      verdict = verdict.Accepted;
+      verdict = Ok tt;
       raw = images (raw_text file l.layout) (raw_data file l.layout);
       text_address = l.layout.parts.text.address.0;
       data_address = l.layout.parts.«data».address.0;
@@ -90,7 +87,7 @@ relocatable_of file l =
 unfoldable pub no_module : Refusal → Relocatable
 no_module x =
     record {
-      verdict = verdict.Refused x;
+      verdict = Err x;
       raw = images [] [];
       text_address = 0;
       data_address = 0;
@@ -101,9 +98,9 @@ no_module x =
       toc = none;
     }
 
-unfoldable pub relocatable_by : List ℕ → LoadableAnswer → Relocatable
-relocatable_by file (loadable.Found l) = relocatable_of file l
-relocatable_by file (loadable.Refused x) = no_module x
+unfoldable pub relocatable_by : List ℕ → Result Loadable Refusal → Relocatable
+relocatable_by file (Ok l) = relocatable_of file l
+relocatable_by file (Err x) = no_module x
 
 -- what any file is to builds and moves
 unfoldable pub relocatable_at : List ℕ → Relocatable

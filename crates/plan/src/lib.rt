@@ -11,7 +11,8 @@ ghost use Rattle.plan.specs.Relocatable.{followed_in, relocation_at};
 use format::{FileOffset, Format, SectionNumber};
 use history::{Followed, Relocation};
 use loadable::Loadable;
-use refusal::{Refusal, RoomItem, Verdict};
+use refusal::{Refusal, RoomItem};
+use word::Width;
 
 // Which address the loader symbol with place `k` follows, in a table that starts at `start`; `number` is the text section's. It takes the
 // few numbers that it needs and no struct, which a loop over the entries would copy at each turn.
@@ -27,9 +28,9 @@ pub fn followed_at(
 {
     let base = (start.0 + k * format::LOADER_SYMBOL_LENGTH) as usize;
     let fields = format::symbol_layout(f);
-    let smtype = word::read_field(file, base, word::one(14));
+    let smtype = word::read_field(file, base, Width::One.at(14));
     if smtype / 64 % 2 == 1 {
-        let ifile = word::read_field(file, base, word::four(16));
+        let ifile = word::read_field(file, base, Width::Four.at(16));
         if ifile == 0 {
             return Followed::Nothing;
         }
@@ -61,12 +62,12 @@ pub fn relocation_at(file: &[u8], l: Loadable, i: u64) -> Relocation
 }
 
 // ROOM 2: a list of exactly as many addresses as loader symbols.
-pub fn check_list(l: Loadable, list: &[u64]) -> Verdict
+pub fn check_list(l: Loadable, list: &[u64]) -> Result<(), Refusal>
     ensures { result ≡ list_room l.tables.nsyms (length list.now) }
 {
     let t = l.tables;
     if list.len() as u64 == t.nsyms {
-        return Verdict::Accepted;
+        return Ok(());
     }
-    Verdict::Refused(Refusal::Room(RoomItem::AddressList))
+    Err(Refusal::Room(RoomItem::AddressList))
 }

@@ -11,7 +11,7 @@ ghost use Rattle.plan.specs.Relocatable.{relocatable_of};
 
 use history::Followed;
 use loadable::Loadable;
-use refusal::{PlanItem, Refusal, Verdict};
+use refusal::{PlanItem, Refusal};
 
 // Whether `a` is an address up to `last`, and `size` bytes from it end there or before.
 fn fits_up_to(last: u64, a: u64, size: u64) -> bool
@@ -53,25 +53,28 @@ fn refuses_import(file: &[u8], l: Loadable, last: u64, list: &[u64], k: u64) -> 
 }
 
 // PLAN of the lowest import.
-fn check_imports(file: &[u8], l: Loadable, last: u64, list: &[u64]) -> Verdict
+fn check_imports(file: &[u8], l: Loadable, last: u64, list: &[u64]) -> Result<(), Refusal>
     requires valid { Valid file.now l × (length list.now ≡ l.tables.nsyms) }
     requires last_value { last + 1 ≡ address_limit l.layout.format }
     ensures { result ≡ first_of (import_check (relocatable_of file.now l) list.now) 0 l.tables.nsyms }
 {
     let t = l.tables;
-    let count = t.nsyms;
-    let mut k: u64 = 0;
-    while k < count {
+    for k in 0..t.nsyms {
         if refuses_import(file, l, last, list, k) {
-            return Verdict::Refused(Refusal::Plan(PlanItem::ImportAddress(k + 3)));
+            return Err(Refusal::Plan(PlanItem::ImportAddress(k + 3)));
         }
-        k += 1;
     }
-    Verdict::Accepted
+    Ok(())
 }
 
 // PLAN: the text and data images' ends, then the lowest import. The data image counts the gap before bss and bss.
-pub fn check_fit(file: &[u8], l: Loadable, text: u64, data: u64, list: &[u64]) -> Verdict
+pub fn check_fit(
+    file: &[u8],
+    l: Loadable,
+    text: u64,
+    data: u64,
+    list: &[u64],
+) -> Result<(), Refusal>
     requires { Valid file.now l × (length list.now ≡ l.tables.nsyms) }
     ensures { result ≡ fit_check (relocatable_of file.now l) (record { text = text; dat = «data»; list = list.now }) }
 {
@@ -81,10 +84,10 @@ pub fn check_fit(file: &[u8], l: Loadable, text: u64, data: u64, list: &[u64]) -
     let f = m.format;
     let last = format::last_address(f);
     if !fits_up_to(last.0, text, section.size) {
-        return Verdict::Refused(Refusal::Plan(PlanItem::TextAddress));
+        return Err(Refusal::Plan(PlanItem::TextAddress));
     }
     if !fits_up_to(last.0, data, m.image) {
-        return Verdict::Refused(Refusal::Plan(PlanItem::DataAddress));
+        return Err(Refusal::Plan(PlanItem::DataAddress));
     }
     check_imports(file, l, last.0, list)
 }

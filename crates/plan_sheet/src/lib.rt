@@ -8,50 +8,44 @@ ghost use Rattle.refusal.specs.Order.{by_verdict, if_accepted};
 ghost use Rattle.sheet.specs.Sheet.{head_length, sheet_length, numbers_from, sheet_check, room_check, head_in, read_in, list_in, head_answer, read_answer, read_list, address_bytes, write_check, write_sheet, sheet_head, report_of_sheet};
 
 use format::VirtualAddress;
-use refusal::{LimitItem, Refusal, RoomItem, Verdict};
-use sheet::{FormAnswer, SheetAnswer, SheetForm, SheetHead};
+use refusal::{LimitItem, Refusal, RoomItem};
+use sheet::{SheetForm, SheetHead};
 
 // SHEET, LIMIT 2, SHEET.
-fn check_sheet(sheet: &[u8], f: SheetForm) -> Verdict
+fn check_sheet(sheet: &[u8], f: SheetForm) -> Result<(), Refusal>
     ensures { result ≡ sheet_check f sheet.now }
 {
     if sheet.len() < sheet::head_length(f) {
-        return Verdict::Refused(Refusal::Sheet);
+        return Err(Refusal::Sheet);
     }
     if sheet::read_count(sheet, f, 0) != 2 {
-        return Verdict::Refused(Refusal::Sheet);
+        return Err(Refusal::Sheet);
     }
     let head = sheet::read_head(sheet, f);
     if sheet::list_limit(f) < head.count {
-        return Verdict::Refused(Refusal::Limit(LimitItem::SheetList));
+        return Err(Refusal::Limit(LimitItem::SheetList));
     }
     if sheet.len() as u64 != sheet::sheet_length(f, head.count) {
-        return Verdict::Refused(Refusal::Sheet);
+        return Err(Refusal::Sheet);
     }
-    Verdict::Accepted
+    Ok(())
 }
 
 // What a sheet of the form `f` says of itself.
-fn head_in(sheet: &[u8], f: SheetForm) -> SheetAnswer
+fn head_in(sheet: &[u8], f: SheetForm) -> Result<SheetHead, Refusal>
     ensures { result ≡ head_in sheet.now f }
 {
-    let v = check_sheet(sheet, f);
-    match v {
-        Verdict::Accepted => SheetAnswer::Found(sheet::read_head(sheet, f)),
-        Verdict::Refused(x) => SheetAnswer::Refused(x),
-    }
+    check_sheet(sheet, f)?;
+    Ok(sheet::read_head(sheet, f))
 }
 
 // What a sheet says of itself: SHEET, LIMIT 2; how long a list it needs.
-pub fn sheet_head(sheet: &[u8]) -> SheetAnswer
+pub fn sheet_head(sheet: &[u8]) -> Result<SheetHead, Refusal>
     ensures cause { result ≡ head_answer sheet.now }
     ensures report { report_of_sheet result ≡ report_of_sheet (head_answer sheet.now) }
 {
-    let a = sheet::form_of(sheet);
-    match a {
-        FormAnswer::Known(f) => head_in(sheet, f),
-        FormAnswer::Unknown => SheetAnswer::Refused(Refusal::Sheet),
-    }
+    let f = sheet::form_of(sheet).ok_or(Refusal::Sheet)?;
+    head_in(sheet, f)
 }
 
 // Fills the list with the addresses from `start` on.
@@ -59,52 +53,47 @@ fn fill_list(sheet: &[u8], start: usize, list: &mut [u64])
     requires { start + length list.old * 8 ≤ length sheet.now }
     ensures { list.new ≡ numbers_from sheet.now start (length list.old) }
 {
-    let mut i = 0;
-    while i < list.len() {
-        list[i] = word::get64(sheet, start + i * 8);
-        i += 1;
+    for (i, address) in list.iter_mut().enumerate() {
+        *address = word::get64(sheet, start + i * 8);
     }
 }
 
 // ROOM 2, or the list filled.
-fn read_list(sheet: &[u8], f: SheetForm, head: SheetHead, list: &mut [u64]) -> SheetAnswer
+fn read_list(
+    sheet: &[u8],
+    f: SheetForm,
+    head: SheetHead,
+    list: &mut [u64],
+) -> Result<SheetHead, Refusal>
     requires { sheet_length f head.count ≤ length sheet.now }
-    ensures answer { result ≡ by_verdict (room_check (length list.old) head) (SheetAnswer.Found head) SheetAnswer.Refused }
+    ensures answer { result ≡ by_verdict (room_check (length list.old) head) (Ok head) Err }
     ensures list { list.new ≡ if_accepted (room_check (length list.old) head) (numbers_from sheet.now (head_length f) head.count) list.old }
 {
     if list.len() as u64 != head.count {
-        return SheetAnswer::Refused(Refusal::Room(RoomItem::AddressList));
+        return Err(Refusal::Room(RoomItem::AddressList));
     }
     fill_list(sheet, sheet::head_length(f), list);
-    SheetAnswer::Found(head)
+    Ok(head)
 }
 
 // Reads a sheet of the form `f` into the list.
-fn read_in(sheet: &[u8], f: SheetForm, list: &mut [u64]) -> SheetAnswer
+fn read_in(sheet: &[u8], f: SheetForm, list: &mut [u64]) -> Result<SheetHead, Refusal>
     ensures answer { result ≡ read_in sheet.now (length list.old) f }
     ensures list { list.new ≡ list_in sheet.now list.old f }
 {
-    let v = check_sheet(sheet, f);
-    match v {
-        Verdict::Accepted => {
-            let head = sheet::read_head(sheet, f);
-            read_list(sheet, f, head, list)
-        }
-        Verdict::Refused(x) => SheetAnswer::Refused(x),
-    }
+    check_sheet(sheet, f)?;
+    let head = sheet::read_head(sheet, f);
+    read_list(sheet, f, head, list)
 }
 
 // Reads a sheet into a list of exactly as many places as it has addresses.
-pub fn read_sheet(sheet: &[u8], list: &mut [u64]) -> SheetAnswer
+pub fn read_sheet(sheet: &[u8], list: &mut [u64]) -> Result<SheetHead, Refusal>
     ensures cause { result ≡ read_answer sheet.now (length list.old) }
     ensures report { report_of_sheet result ≡ report_of_sheet (read_answer sheet.now (length list.old)) }
     ensures list { list.new ≡ read_list sheet.now list.old }
 {
-    let a = sheet::form_of(sheet);
-    match a {
-        FormAnswer::Known(f) => read_in(sheet, f, list),
-        FormAnswer::Unknown => SheetAnswer::Refused(Refusal::Sheet),
-    }
+    let f = sheet::form_of(sheet).ok_or(Refusal::Sheet)?;
+    read_in(sheet, f, list)
 }
 
 // Writes the numbers before the list, as a new sheet has them.
@@ -123,10 +112,8 @@ fn write_list(list: &[u64], start: usize, sheet: &mut [u8])
     requires { start + length list.now * 8 ≤ length sheet.old }
     ensures { sheet.new ≡ sets sheet.old start (address_bytes list.now) }
 {
-    let mut i = 0;
-    while i < list.len() {
-        update::put64(sheet, start + i * 8, list[i]);
-        i += 1;
+    for (i, address) in list.iter().enumerate() {
+        update::put64(sheet, start + i * 8, *address);
     }
 }
 
@@ -136,16 +123,13 @@ pub fn write_sheet(
     data: VirtualAddress,
     list: &[u64],
     sheet: &mut [u8],
-) -> Verdict
+) -> Result<(), Refusal>
     ensures cause { result ≡ write_check (length list.now) (length sheet.old) }
     ensures report { sheet_head result ≡ sheet_head (write_check (length list.now) (length sheet.old)) }
     ensures sheet { sheet.new ≡ write_sheet text.0 «data».0 list.now sheet.old }
 {
-    let v = sheet::check_write(list.len() as u64, sheet.len() as u64);
-    if refusal::refuses(v) {
-        return v;
-    }
+    sheet::check_write(list.len() as u64, sheet.len() as u64)?;
     write_head(text, data, list.len() as u32, sheet);
     write_list(list, sheet::head_length(SheetForm::New), sheet);
-    Verdict::Accepted
+    Ok(())
 }

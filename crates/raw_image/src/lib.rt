@@ -19,11 +19,11 @@ fn copy_bytes(file: &[u8], at: usize, n: usize, dst: &mut [u8])
     requires { (0 < n → at + n ≤ length file.now) × (n ≤ length dst.old) }
     ensures { dst.new ≡ paste dst.old 0 (drop at file.now) n }
 {
-    let mut i = 0;
-    while i < n {
-        dst[i] = file[at + i];
-        i += 1;
+    // With no byte to copy, `at` may lie past the file.
+    if n == 0 {
+        return;
     }
+    dst[..n].copy_from_slice(&file[at..at + n]);
 }
 
 // Makes every byte from `n` on 0.
@@ -31,11 +31,7 @@ fn clear_from(dst: &mut [u8], n: usize)
     requires { n ≤ length dst.old }
     ensures { dst.new ≡ paste dst.old n (replicate (length dst.old - n) 0) (length dst.old - n) }
 {
-    let mut i = n;
-    while i < dst.len() {
-        dst[i] = 0;
-        i += 1;
-    }
+    dst[n..].fill(0);
 }
 
 // Fills an image: a section's bytes, then zeros.

@@ -13,7 +13,6 @@ use Rattle.update.specs.Update.{remainder}
 use Rattle.update.proofs.Remainder.{remainder-add}
 use Rattle.history.specs.declared.Followed.{Followed}
 use Rattle.history.specs.declared.Followed.TheVariants as followed
-use Rattle.history.specs.declared.AnchorAddress.TheVariants.{At}
 use Rattle.history.specs.Images.{Images, Shifts, apply_all, length_of}
 use Rattle.history.specs.Plan.{Relocatable, Plan, Anchored, limit_of, Sound, followed_by, displacement_of, displacements, differences, built_images, moved_address, reached_by, list_check, address_check, import_check, fit_check, plan_check}
 use Rattle.history.specs.Plan.Anchored.{none, in_text, in_data}
@@ -21,6 +20,7 @@ use Rattle.history.specs.Call.{Call, build, move, plan_reached, room_check, call
 use Rattle.book.specs.Machine as machine
 use Rattle.history.proofs.Apply.{apply_all-add, apply_all-lengths, length-in}
 use Rattle.rebase.specs.Rebase.{new_address, rebased_symbol, rebased_anchor, rebased}
+use Rattle.std.specs.Prelude.{Some}
 
 limit-positive : (f : Format) → 0 < address_limit f
 limit-positive Xcoff32 = lit< tt
@@ -170,8 +170,8 @@ module _ (m : Relocatable) (p : Plan) where
   anchor-again : (q : Plan) (a : Anchored) → moved_address (rebased m p) q (rebased_anchor m p a) ≡ moved_address m q a
   unfolding moved_address rebased_anchor rebased new_address
   anchor-again q none = refl
-  anchor-again q (in_text a) = ap (λ (n : ℕ). At (record { 0 = n })) (again q followed.Text a)
-  anchor-again q (in_data a) = ap (λ (n : ℕ). At (record { 0 = n })) (again q followed.Data a)
+  anchor-again q (in_text a) = ap (λ (n : ℕ). Some (record { 0 = n })) (again q followed.Text a)
+  anchor-again q (in_data a) = ap (λ (n : ℕ). Some (record { 0 = n })) (again q followed.Data a)
 
   reached-rebased : (q : Plan) → reached_by (rebased m p) q ≡ reached_by m q
   unfolding reached_by rebased

@@ -1,16 +1,14 @@
 -- The lines of an image one at a time, and the lengths of a shape. Assumes nothing.
-use mathlib.Core.Path.{◌≡◌, refl, sym, ◌∙◌, ap, ap₂}
-use mathlib.Core.Bool.{cond}
+use mathlib.Core.Path.{◌≡◌, refl, sym, ◌∙◌, ap}
 use mathlib.Core.List.{List, [], ◌∷◌, ◌++◌, append-nil, append_assoc}
 use Prim.Native.Nat.{ℕ, zero, suc, ◌+◌, ◌-◌, ◌*◌, ◌/◌, ◌≤◌, ◌<◌, min}
-use native.Mathlib.Nat.{add-zero, sub-zero}
 use native.Mathlib.Omega.{arith}
 use borrow.Author.Tests.{ltb-true, ltb-false}
 use lib.Dec.{ltb}
-use lib.ListN.{drop_of_length-le, length, get_or, take, drop, length-append, length-drop, length-take, take-append-drop}
-use lib.Seq.{sets, drop-drop, take_at, drop_at, take-append-le, drop-append-le, take_all, drop-length}
+use lib.ListN.{drop_of_length-le, length, take, drop, length-append, length-drop, length-take}
+use lib.Seq.{sets, drop-drop, take-append-le, drop-append-le}
 use Rattle.update.proofs.Stores.{sets-append, sets-whole}
-use Rattle.record.specs.Record.{Slot, slot, line_of, line_length, written, text_length, data_length, slots_in, image_slots, last_slot, shape, record_text, line_bytes}
+use Rattle.record.specs.Record.{Slot, slot, line_of, written, text_length, data_length, slots_in, image_slots, last_slot, shape, record_text}
 use Rattle.record.proofs.Lines.{slots-none, slots-more, length-line, length-written}
 use Rattle.record.proofs.Stores.{join}
 use Rattle.record.proofs.Hex.{cases}

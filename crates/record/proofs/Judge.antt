@@ -1,16 +1,15 @@
 -- Counting what a text misses, and judging by the count. Assumes nothing.
-use mathlib.Core.Path.{◌≡◌, refl, sym, ◌∙◌, ap}
-use mathlib.Core.Bool.{Bool, true, false, ◌&&◌, cond}
+use mathlib.Core.Path.{◌≡◌, refl, ◌∙◌, ap}
+use mathlib.Core.Bool.{true, false}
 use mathlib.Core.List.{List, [], ◌∷◌, ◌++◌}
-use Prim.Native.Nat.{ℕ, zero, suc, ◌+◌, ◌-◌, ◌*◌, ◌/◌, ◌%◌, ◌≤◌, ◌<◌, min}
-use native.Mathlib.Nat.{add-zero, zero-add, div-one}
+use Prim.Native.Nat.{ℕ, suc, ◌+◌, ◌-◌, ◌*◌, ◌/◌, ◌%◌, ◌≤◌, ◌<◌, min}
+use native.Mathlib.Nat.{add-zero, zero-add}
 use native.Mathlib.Omega.{arith}
-use borrow.Author.Tests.{eqb-true, eq-eqb, ne_eqb, le-leb, lt-leb, leb-true}
+use borrow.Author.Tests.{eq-eqb, ne_eqb, le-leb, lt-leb, leb-true}
 use lib.Dec.{eqb, leb}
 use lib.ListN.{length, get_or, set}
 use lib.Seq.{sets}
-use Rattle.update.specs.Update.{bytes_of_number}
-use Rattle.record.specs.Record.{digit_of, hex_of, sum_of, checksum, Slot, slot, leading, line_of, line_length, image_slots, byte_in, data_at, holds, line_at, bad_from}
+use Rattle.record.specs.Record.{digit_of, hex_of, sum_of, checksum, slot, leading, line_of, line_length, image_slots, byte_in, data_at, holds, line_at, bad_from}
 use Rattle.record.specs.Count.{differs, misses}
 use Rattle.record.proofs.Hex.{cases, length-hex, length-data}
 use Rattle.record.proofs.Lines.{head_of, tail_of, length-head, line-parts, slots-none, slots-more}

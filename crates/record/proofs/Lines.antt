@@ -1,17 +1,16 @@
 -- A line taken apart, how long lines are, and the shape of an image one line at a time. Assumes nothing.
 use mathlib.Core.Path.{◌≡◌, refl, sym, ◌∙◌, ap}
-use mathlib.Core.Bool.{Bool, true, false, ◌&&◌, cond}
+use mathlib.Core.Bool.{true}
 use mathlib.Core.List.{List, [], ◌∷◌, ◌++◌, append_assoc}
-use Prim.Native.Nat.{ℕ, zero, suc, ◌+◌, ◌-◌, ◌*◌, ◌/◌, ◌%◌, ◌≤◌, ◌<◌, min}
-use native.Mathlib.Nat.{add-zero}
+use Prim.Native.Nat.{ℕ, suc, ◌+◌, ◌-◌, ◌/◌, ◌<◌, min}
 use native.Mathlib.Omega.{arith}
-use lib.ListN.{length, get_or, take, drop, length-append, length-take, length-drop}
-use lib.Seq.{length-take-le, get_or-take, get_or-drop, drop-append-add, take_at, drop_at}
-use Rattle.word.proofs.Test.{either, and_first, and_second}
+use lib.ListN.{length, take, drop, length-append, length-drop}
+use lib.Seq.{length-take-le}
+use Rattle.word.proofs.Test.{and_first, and_second}
 use Rattle.update.specs.Update.{Bytes, bytes_of_number}
 use Rattle.update.proofs.Laws.{length-bytes}
-use Rattle.record.specs.Record.{hex_of, checksum, Slot, slot, leading, line_of, line_length, written, text_length, data_length, slots_in, image_slots, data_at, holds, line_at, line_bytes}
-use Rattle.record.proofs.Hex.{hex-append, length-hex, holds-append, data-held, length-data}
+use Rattle.record.specs.Record.{hex_of, checksum, Slot, slot, leading, line_of, line_length, written, text_length, data_length, slots_in, image_slots, data_at, holds, line_bytes}
+use Rattle.record.proofs.Hex.{hex-append, length-hex, holds-append, data-held}
 
 -- what stands before the data, and behind it
 unfoldable pub head_of : Slot → List ℕ

@@ -1,21 +1,21 @@
 -- A whole text judged and read, part by part. Assumes nothing.
 use mathlib.Core.Path.{◌≡◌, refl, sym, ◌∙◌, ap}
-use mathlib.Core.Bool.{Bool, true, false, cond}
+use mathlib.Core.Bool.{true, false, cond}
 use mathlib.Core.List.{List, [], ◌∷◌, ◌++◌, append-nil, append_assoc}
 use Prim.Native.Nat.{ℕ, zero, suc, ◌+◌, ◌-◌, ◌*◌, ◌/◌, ◌≤◌, ◌<◌, min}
-use native.Mathlib.Nat.{add-zero, zero-add}
+use native.Mathlib.Nat.{add-zero}
 use native.Mathlib.Omega.{arith}
 use borrow.Author.Tests.{le-leb, lt-leb, ltb-true, ltb-false}
 use lib.Dec.{leb, ltb}
-use lib.ListN.{length, take, drop, length-append, take-append-drop}
-use lib.Seq.{sets, take_at, drop_at, length-take-le}
+use lib.ListN.{length, length-append, take-append-drop}
+use lib.Seq.{sets, take_at, drop_at}
 use Rattle.update.specs.Update.{Bytes}
-use Rattle.update.proofs.Stores.{sets-append, sets-whole}
-use Rattle.record.specs.Record.{Slot, slot, line_length, written, text_length, data_length, image_slots, last_slot, shape, record_text, data_at, line_at, bad_from, or_line, surplus, first_bad, read_from, text_read, data_read, if_good}
+use Rattle.update.proofs.Stores.{sets-append}
+use Rattle.record.specs.Record.{Slot, slot, line_length, written, text_length, image_slots, last_slot, shape, record_text, data_at, line_at, bad_from, or_line, surplus, first_bad, read_from, text_read, data_read, if_good}
 use Rattle.record.specs.Claim.{Fills}
 use Rattle.record.proofs.Hex.{cases, length-data}
 use Rattle.record.proofs.Lines.{slots-none, slots-more}
-use Rattle.record.proofs.Theorems.{read-written, written_read, fills-read, lines-held, bad-least}
+use Rattle.record.proofs.Theorems.{read-written, written_read, fills-read, lines-held}
 use Rattle.record.proofs.Images.{image-lines, image-data, image-length, shape-length, shape-lines, shape-data}
 
 or_assoc : (a b c : ℕ) → or_line (or_line a b) c ≡ or_line a (or_line b c)

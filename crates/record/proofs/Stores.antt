@@ -1,15 +1,16 @@
 -- What a run of stores leaves, one piece at a time. Assumes nothing.
 use mathlib.Core.Path.{◌≡◌, refl, sym, ◌∙◌, ap}
 use mathlib.Core.List.{List, [], ◌∷◌, ◌++◌}
-use Prim.Native.Nat.{ℕ, zero, suc, ◌+◌, ◌-◌, ◌*◌, ◌/◌, ◌%◌, ◌≤◌, ◌<◌}
-use native.Mathlib.Nat.{sub_self, div-one}
-use native.Mathlib.Numerals.{add-one}
+use Prim.Native.Nat.{ℕ, suc, ◌+◌, ◌-◌, ◌*◌, ◌/◌, ◌%◌, ◌≤◌, ◌<◌}
+use native.Mathlib.Nat.{div-one}
 use native.Mathlib.Omega.{arith}
-use lib.ListN.{length, get_or, take, drop, length-drop, drop_of_length-le}
+use lib.ListN.{length, get_or, take, drop}
 use lib.Seq.{sets, drop-cons}
+use Rattle.std.specs.List.{sum}
+use Rattle.std.proofs.lemmas.List.Recursion.{is_sum_by}
 use Rattle.update.proofs.Stores.{sets-append}
 use Rattle.update.specs.Update.{bytes_of_number}
-use Rattle.record.specs.Record.{digit_of, hex_of, sum_of, checksum, slot, Slot, leading, line_of}
+use Rattle.record.specs.Record.{digit_of, hex_of, sum_of, checksum, slot, leading, line_of}
 use Rattle.record.proofs.Lines.{head_of, tail_of, line-parts, length-head}
 use Rattle.record.proofs.Hex.{length-hex, hex-append}
 
@@ -69,14 +70,10 @@ pub data-end : (o l : List ℕ) (p from n i : ℕ) → n ≤ i → sets o p (hex
 unfolding hex_of
 data-end o l p from n i h = let e : n - i ≡ 0 = omega arith in rw e refl
 
--- a sum by what is left
-pub sum_left : (b : List ℕ) (i : ℕ) → i < length b → sum_of (drop i b) ≡ get_or b i 0 + sum_of (drop (i + 1) b)
+-- the sum is std's
+pub sum-is : (b : List ℕ) → sum_of b ≡ sum b
 unfolding sum_of
-sum_left b i h = let e : i + 1 ≡ suc i = omega arith in rw (drop-cons b i 0 h, e) refl
-
-pub sum_done : (b : List ℕ) (i : ℕ) → length b ≤ i → sum_of (drop i b) ≡ 0
-unfolding sum_of
-sum_done b i h = rw (drop_of_length-le b {i = i} h) refl
+sum-is b = is_sum_by sum_of (λ x. x) refl (λ _ _. refl) b
 
 -- what stands before the data
 pub lead-stored : (o₀ o₁ o₂ o₃ o₄ o₅ o₆ o₇ : List ℕ) (at kind a n : ℕ) → o₁ ≡ sets o₀ at (83 ∷ []) → o₂ ≡ sets o₁ (at + 1) (kind ∷ []) → o₃ ≡ sets o₂ (at + 2) (hex_of ((n + 5) ∷ []))

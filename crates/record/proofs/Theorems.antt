@@ -1,20 +1,20 @@
 -- Reading and writing undo each other, and the number given is the first bad line's. Assumes nothing.
 use mathlib.Core.Path.{◌≡◌, refl, sym, ◌∙◌, ap}
-use mathlib.Core.Bool.{Bool, true, false, ◌&&◌, cond}
-use mathlib.Core.List.{List, [], ◌∷◌, ◌++◌, append_assoc}
+use mathlib.Core.Bool.{Bool, true, ◌&&◌}
+use mathlib.Core.List.{List, [], ◌∷◌, ◌++◌}
 use mathlib.Core.Logic.{◌⊎◌, inl, inr, ⊎_elim}
-use Prim.Native.Nat.{ℕ, zero, suc, ◌+◌, ◌-◌, ◌*◌, ◌≤◌, ◌<◌, min}
-use native.Mathlib.Nat.{add-zero, zero-add}
+use Prim.Native.Nat.{ℕ, zero, suc, ◌+◌, ◌≤◌, ◌<◌}
+use native.Mathlib.Nat.{zero-add}
 use native.Mathlib.Numerals.{add-one}
 use native.Mathlib.Omega.{arith}
-use borrow.Author.Tests.{leb-true, leb-false, le-leb, lt-leb, ltb-true, ltb-false}
+use borrow.Author.Tests.{leb-true, leb-false, le-leb, ltb-true, ltb-false}
 use lib.Dec.{leb, ltb}
 use lib.ListN.{length, get_or, take, drop, length-append, length-take, length-drop, take-append-drop}
-use lib.Seq.{length-take-le, get_or-take, get_or-drop, take_at, drop_at, take-length, take_all, ext_get_or, take-append-add, take-append-le, take-take}
-use Rattle.word.proofs.Test.{either, and_first, and_second}
+use lib.Seq.{length-take-le, get_or-take, get_or-drop, take_at, drop_at, take-length, take_all, ext_get_or, take-append-add, take-take}
+use Rattle.word.proofs.Test.{and_first, and_second}
 use Rattle.update.specs.Update.{Bytes}
 use Rattle.record.specs.Record.{Slot, line_of, line_length, written, text_length, data_length, data_at, holds, line_at, bad_from, or_line, surplus, first_bad, read_from}
-use Rattle.record.specs.Claim.{Fills, IsText, FirstLines, BadAfter}
+use Rattle.record.specs.Claim.{Fills, IsText, BadAfter}
 use Rattle.record.proofs.Hex.{cases, holds-append, holds-get, get_holds, length-data, bytes-data}
 use Rattle.record.proofs.Lines.{length-line, line_read, length-written}
 

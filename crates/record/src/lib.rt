@@ -31,18 +31,12 @@ pub fn put_hex(out: &mut [u8], at: usize, b: u8)
     put(out, at + 1, digit(b % 16));
 }
 
-// The sum of a line's data bytes. It is no part of the loop above, which so does twice as many bytes in a machine step.
+// The sum of a line's data bytes. It is no part of the loop that writes them, which so does twice as many bytes in a machine step.
 pub fn sum_bytes(b: &[u8]) -> u16
     requires { length b.now ≤ 32 }
     ensures { (result ≡ sum_of b.now) × (result ≤ 8160) }
 {
-    let mut sum: u16 = 0;
-    let mut i = 0;
-    while i < b.len() {
-        sum += b[i] as u16;
-        i += 1;
-    }
-    sum
+    b.iter().map(|x| u16::from(*x)).sum()
 }
 
 // S, the type, the count and the address.

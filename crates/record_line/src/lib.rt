@@ -11,10 +11,8 @@ fn put_run(out: &mut [u8], at: usize, image: &[u8], from: usize, n: usize)
     requires { (at + 2 * n ≤ length out.old) × (from + n ≤ length image.now) × (n ≤ 32) }
     ensures { out.new ≡ sets out.old at (hex_of (take n (drop from image.now))) }
 {
-    let mut i = 0;
-    while i < n {
-        record::put_hex(out, at + 2 * i, image[from + i]);
-        i += 1;
+    for (i, b) in image[from..from + n].iter().enumerate() {
+        record::put_hex(out, at + 2 * i, *b);
     }
 }
 
@@ -71,13 +69,11 @@ fn scan_run(t: &[u8], p: usize, n: usize) -> Scan
 {
     let mut sum: u16 = 0;
     let mut wrong: u8 = 0;
-    let mut i = 0;
-    while i < n {
+    for i in 0..n {
         let q = p + 2 * i;
         let b = record::byte_at(t, q);
         wrong += record::miss_hex(t, q, b);
         sum += b as u16;
-        i += 1;
     }
     Scan { sum, wrong }
 }
@@ -90,12 +86,10 @@ fn put_values(t: &[u8], p: usize, v: &mut [u8; 64]) -> u8
     ensures wrong { (result ≡ misses t.now p (digits_of (values_at t.now p 64))) × (result ≤ 64) }
 {
     let mut wrong: u8 = 0;
-    let mut i = 0;
-    while i < 64 {
+    for i in 0..64 {
         let x = record::value(t[p + i]);
         v[i] = x;
         wrong += record::miss(t, p + i, record::digit(x));
-        i += 1;
     }
     wrong
 }
@@ -105,10 +99,8 @@ fn put_joined(v: &[u8; 64], dst: &mut [u8], to: usize)
     requires { (length v.now ≡ 64) × ((k : ℕ) → get_or v.now k 0 < 16) × (to + 32 ≤ length dst.old) }
     ensures { dst.new ≡ sets dst.old to (joined v.now) }
 {
-    let mut i = 0;
-    while i < 32 {
+    for i in 0..32 {
         dst[to + i] = v[2 * i] * 16 + v[2 * i + 1];
-        i += 1;
     }
 }
 
@@ -158,10 +150,8 @@ fn fill_run(t: &[u8], p: usize, n: usize, dst: &mut [u8], to: usize)
     requires { (p + 2 * n ≤ length t.now) × (to + n ≤ length dst.old) }
     ensures { dst.new ≡ sets dst.old to (data_at t.now p n) }
 {
-    let mut i = 0;
-    while i < n {
+    for i in 0..n {
         dst[to + i] = record::byte_at(t, p + 2 * i);
-        i += 1;
     }
 }
 

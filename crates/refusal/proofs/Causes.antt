@@ -3,31 +3,30 @@ use Prim.Native.Nat.{ℕ, zero, suc, ◌+◌, ◌≤◌, ◌<◌}
 use mathlib.Core.Path.{◌≡◌, refl}
 use mathlib.Core.Bool.{Bool, true, false}
 use native.Mathlib.Omega.{arith}
-use Rattle.refusal.specs.declared.RangeAnswer.{RangeAnswer}
-use Rattle.refusal.specs.declared.RangeAnswer.TheVariants as range
 use Rattle.refusal.specs.declared.Refusal.{Refusal}
-use Rattle.refusal.specs.declared.Verdict.{Verdict}
-use Rattle.refusal.specs.declared.Verdict.TheVariants.{Accepted, Refused}
 use Rattle.refusal.specs.Order.{◌or_else◌, refuse_if, first_of}
+use Rattle.std.specs.Prelude.{Err, Ok, Result}
+use Rattle.format.specs.declared.FileRange.{FileRange}
+use Rattle.refusal.specs.Verdict.{Verdict}
 
 -- P holds of the verdict's refusal, if it has one
 abbrev pub Causes : (Refusal → Type 0) → Verdict → Type 0
-Causes P Accepted = Unit {0}
-Causes P (Refused x) = P x
+Causes P (Ok tt) = Unit {0}
+Causes P (Err x) = P x
 
 -- of an answer with a part of the file
-abbrev pub RangeCauses : (Refusal → Type 0) → RangeAnswer → Type 0
-RangeCauses P (range.Found r) = Unit {0}
-RangeCauses P (range.Refused x) = P x
+abbrev pub RangeCauses : (Refusal → Type 0) → Result FileRange Refusal → Type 0
+RangeCauses P (Ok r) = Unit {0}
+RangeCauses P (Err x) = P x
 
 module _ (P : Refusal → Type 0) where
   pub cause-if : (b : Bool) (x : Refusal) → (b ≡ true → P x) → Causes P (refuse_if b x)
   cause-if true x h = h refl
   cause-if false x h = tt
 
-  pub cause-then : (v w : Verdict) → Causes P v → (v ≡ Accepted → Causes P w) → Causes P (v or_else w)
-  cause-then Accepted w h k = k refl
-  cause-then (Refused x) w h k = h
+  pub cause-then : (v w : Verdict) → Causes P v → (v ≡ Ok tt → Causes P w) → Causes P (v or_else w)
+  cause-then (Ok tt) w h k = k refl
+  cause-then (Err x) w h k = h
 
   pub cause-test : (b : Bool) (x : Refusal) (w : Verdict) → (b ≡ true → P x) → (b ≡ false → Causes P w) → Causes P (refuse_if b x or_else w)
   cause-test true x w h k = h refl
@@ -38,5 +37,5 @@ module _ (P : Refusal → Type 0) where
   cause-first check i zero h = tt
   cause-first check i (suc n) h = cause-then (check i) (first_of check (suc i) n) (h i (omega arith) (omega arith)) (λ _. cause-first check (suc i) n (λ j a b. h j (omega arith) (omega arith)))
 
-  pub cause-of : {v : Verdict} {x : Refusal} → Causes P v → v ≡ Refused x → P x
+  pub cause-of : {v : Verdict} {x : Refusal} → Causes P v → v ≡ Err x → P x
   cause-of h e = rw e at h

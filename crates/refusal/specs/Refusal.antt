@@ -1,5 +1,5 @@
 -- The numbers that are given back: a refusal is a number and an item.
-use Rattle.std.specs.Prelude.{ℕ, Bool, true, false, cond}
+use Rattle.std.specs.Prelude.{ℕ, Bool, true, false, cond, is_err}
 use Rattle.refusal.specs.declared.LimitItem.{LimitItem}
 use Rattle.refusal.specs.declared.LimitItem.TheVariants.{File, Sections, LoaderSymbols, SheetList, Relocations, DataImage, SalvageReport}
 use Rattle.refusal.specs.declared.BoundsItem.{BoundsItem}
@@ -21,8 +21,7 @@ use Rattle.refusal.specs.declared.RoomItem.TheVariants.{TextBuffer, SheetBuffer,
 use Rattle.refusal.specs.declared.Refusal.{Refusal}
 use Rattle.refusal.specs.declared.Refusal.TheVariants.{Short, Magic, Limit, Kind, Bounds, Address, Strings, Index, Aux, Name, Scnum, Csect, Module, Thread, Loader, Lsym, Lrel, SectionLrel, Overlap, SectionOverlap, Plan, Room, Sheet, Record, Form, Clash, Range, Full, Absent, Long, Shared, Visibility, NoLine, Group}
 use Rattle.refusal.specs.declared.Head.{Head}
-use Rattle.refusal.specs.declared.Verdict.{Verdict}
-use Rattle.refusal.specs.declared.Verdict.TheVariants.{Accepted, Refused}
+use Rattle.refusal.specs.Verdict.{Verdict}
 
 -- document 01's number for each case
 abbrev pub number_of : Refusal → ℕ
@@ -173,5 +172,4 @@ abbrev pub one_if : Bool → ℕ
 one_if b = cond b 1 0
 
 abbrev pub is_refused : Verdict → Bool
-is_refused Accepted = false
-is_refused (Refused x) = true
+is_refused v = is_err v

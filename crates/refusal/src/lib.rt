@@ -3,7 +3,7 @@
 
 ghost use Rattle.std.specs.Prelude.{◌≡◌, length};
 ghost use Rattle.refusal.specs.Part.{range_bytes, range_found, Within};
-ghost use Rattle.refusal.specs.Refusal.{number_of, item_of, accepted_head, refused_head, one_if, is_refused, limit_item, bounds_item, address_item, index_item, module_item, thread_item, loader_item, plan_item, room_item};
+ghost use Rattle.refusal.specs.Refusal.{number_of, item_of, accepted_head, refused_head, one_if, limit_item, bounds_item, address_item, index_item, module_item, thread_item, loader_item, plan_item, room_item};
 
 use format::{FileOffset, FileRange, SectionNumber, SymbolIndex};
 
@@ -174,20 +174,6 @@ pub enum Refusal {
     NoLine,
     // a line entry before any function entry
     Group,
-}
-
-// Whether something is taken.
-#[derive(Clone, Copy)]
-pub enum Verdict {
-    Accepted,
-    Refused(Refusal),
-}
-
-// A part of the file that is handed back, or why not.
-#[derive(Clone, Copy)]
-pub enum RangeAnswer {
-    Found(FileRange),
-    Refused(Refusal),
 }
 
 // What every report starts with: document 01's number, 0 where the call is accepted, its item, and where in the file what
@@ -424,21 +410,12 @@ pub fn one_if(b: bool) -> u64
     0
 }
 
-pub fn refuses(v: Verdict) -> bool
-    ensures { result ≡ is_refused v }
-{
-    match v {
-        Verdict::Accepted => false,
-        Verdict::Refused(_) => true,
-    }
-}
-
 // The very bytes of the file; none on a refusal.
-pub fn part_of<'a>(file: &'a [u8], a: RangeAnswer) -> &'a [u8]
+pub fn part_of<'a>(file: &'a [u8], a: Result<FileRange, Refusal>) -> &'a [u8]
     requires { Within (length file.now) a }
     ensures { result.now ≡ range_bytes file.now a }
 {
-    let RangeAnswer::Found(p) = a else {
+    let Ok(p) = a else {
         return &file[..0];
     };
     let from = p.start;
@@ -448,12 +425,12 @@ pub fn part_of<'a>(file: &'a [u8], a: RangeAnswer) -> &'a [u8]
 }
 
 // Where the part lies: an empty range on a refusal.
-pub fn range_found(a: RangeAnswer) -> FileRange
+pub fn range_found(a: Result<FileRange, Refusal>) -> FileRange
     ensures { result ≡ range_found a }
 {
     match a {
-        RangeAnswer::Found(p) => p,
-        RangeAnswer::Refused(_) => FileRange {
+        Ok(p) => p,
+        Err(_) => FileRange {
             start: FileOffset(0),
             length: 0,
         },

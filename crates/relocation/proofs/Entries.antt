@@ -7,7 +7,6 @@ use native.Mathlib.Decide.{ℕ_discrete, dec_le}
 use native.Mathlib.Nat.{mul-le-mul_right, suc-mul}
 use native.Mathlib.Omega.{arith}
 use lib.Dec.{eqb, ltb, leb}
-use lib.ListN.{length}
 use borrow.Author.Tests.{lt-leb, le-leb, leb-true, eq-eqb, ne_eqb, not-false}
 use Rattle.word.specs.Test.{past}
 use Rattle.word.proofs.Test.{past-yes, past-no, and_first, and_second}
@@ -16,7 +15,6 @@ use Rattle.format.specs.declared.Format.TheVariants.{Xcoff32, Xcoff64}
 use Rattle.format.specs.declared.RelocationLayout.{RelocationLayout}
 use Rattle.format.specs.Layout.{relocation_layout}
 use Rattle.format.proofs.Layouts.{FieldInside}
-use Rattle.refusal.specs.declared.Verdict.TheVariants.{Accepted}
 use Rattle.refusal.specs.Order.{refuse_if}
 use Rattle.refusal.proofs.Order.{accepted-rest, accepted-test}
 use Rattle.parts.specs.declared.Part.{Part}
@@ -24,6 +22,7 @@ use Rattle.parts.specs.declared.Parts.{Parts}
 use Rattle.loader_header.specs.declared.LoaderTables.{LoaderTables}
 use Rattle.relocation.specs.declared.RelocationEntry.{RelocationEntry}
 use Rattle.relocation.specs.Relocation.{is_thread, is_type, is_width, width_bits, bytes_wide, is_wide, is_inside, is_held, is_good, own_check, place_of, entry_in, own_at, PlaceInside}
+use Rattle.std.specs.Prelude.{Ok}
 
 -- the fields of an entry at base, in a file of n bytes
 entry-fields : (f : Format) (base n : ℕ) → base + (relocation_layout f).length ≤ n → FieldInside (relocation_layout f).address base n × FieldInside (relocation_layout f).symbol base n
@@ -67,7 +66,7 @@ inside-known p e h =
     (low, omega arith)
 
 -- an entry that is good by itself is held
-own-good : (f : Format) (p : Parts) (nsyms i : ℕ) (e : RelocationEntry) → own_check f p nsyms i e ≡ Accepted → is_good f p nsyms e ≡ true
+own-good : (f : Format) (p : Parts) (nsyms i : ℕ) (e : RelocationEntry) → own_check f p nsyms i e ≡ Ok tt → is_good f p nsyms e ≡ true
 unfolding own_check
 own-good f p nsyms i e q = not-false (is_good f p nsyms e) (accepted-test (not (is_good f p nsyms e)) _ (accepted-rest (refuse_if (is_thread e) _) _ q))
 
@@ -80,18 +79,18 @@ good-held f p nsyms e q =
     let d = ltb e.symbol (3 + nsyms) in
     and_second (a && b) c (and_first (a && b && c) d q)
 
-pub own_held : (f : Format) (p : Parts) (nsyms i : ℕ) (e : RelocationEntry) → own_check f p nsyms i e ≡ Accepted → is_held p e ≡ true
+pub own_held : (f : Format) (p : Parts) (nsyms i : ℕ) (e : RelocationEntry) → own_check f p nsyms i e ≡ Ok tt → is_held p e ≡ true
 own_held f p nsyms i e q = good-held f p nsyms e (own-good f p nsyms i e q)
 
 -- so its symbol is known
-pub own-symbol : (f : Format) (p : Parts) (nsyms i : ℕ) (e : RelocationEntry) → own_check f p nsyms i e ≡ Accepted → ltb e.symbol (3 + nsyms) ≡ true
+pub own-symbol : (f : Format) (p : Parts) (nsyms i : ℕ) (e : RelocationEntry) → own_check f p nsyms i e ≡ Ok tt → ltb e.symbol (3 + nsyms) ≡ true
 own-symbol f p nsyms i e q = last (own-good f p nsyms i e q)
   where
     last : is_good f p nsyms e ≡ true → ltb e.symbol (3 + nsyms) ≡ true
     last g = unfold is_good in and_second (is_type (e.rtype % 256) && is_width f (width_bits e.rtype) && is_held p e) _ g
 
 -- entry i in the file is held where it is good by itself
-pub held_at : (file : List ℕ) (f : Format) (p : Parts) (t : LoaderTables) (i : ℕ) {e : RelocationEntry} → own_at file f p t i ≡ Accepted
+pub held_at : (file : List ℕ) (f : Format) (p : Parts) (t : LoaderTables) (i : ℕ) {e : RelocationEntry} → own_at file f p t i ≡ Ok tt
     → e ≡ entry_in file f t i → is_held p e ≡ true
 unfolding own_at
 held_at file f p t i q h = rw h (own_held f p t.nsyms i (entry_in file f t i) q)
@@ -118,5 +117,5 @@ unfolding place_of
 place_in p e h (yes q) = record { inside = rw (eq-eqb e.scnum p.text.number.0 q) (inside-known p.text e (held-text p e h q)).1 }
 place_in p e h (no n) = record { inside = rw (ne_eqb e.scnum p.text.number.0 n) (inside-known p.«data» e (held-data p e h n)).1 }
 
-pub place_inside : (f : Format) (p : Parts) (nsyms i : ℕ) (e : RelocationEntry) → own_check f p nsyms i e ≡ Accepted → PlaceInside p (place_of p e)
+pub place_inside : (f : Format) (p : Parts) (nsyms i : ℕ) (e : RelocationEntry) → own_check f p nsyms i e ≡ Ok tt → PlaceInside p (place_of p e)
 place_inside f p nsyms i e q = place_in p e (own_held f p nsyms i e q) (ℕ_discrete e.scnum p.text.number.0)

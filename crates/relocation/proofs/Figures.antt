@@ -9,8 +9,8 @@ use Prim.Native.Nat.{ℕ}
 use Rattle.format.specs.declared.Format.{Format}
 use Rattle.parts.specs.declared.Parts.{Parts}
 use Rattle.refusal.specs.declared.Refusal.TheVariants.{Lrel}
-use Rattle.refusal.specs.declared.Verdict.TheVariants.{Refused}
 use Rattle.relocation.specs.declared.RelocationEntry.{RelocationEntry}
+use Rattle.std.specs.Prelude.{Err}
 
 -- P7: type 3F01 subtracts, and is 64 bits wide
 pub p7 : (subtracts 0x3F01 ≡ true) × (width_bits 0x3F01 ≡ 64) × (is_width Xcoff64 (width_bits 0x3F01) ≡ true)
@@ -18,7 +18,7 @@ unfolding is_width
 p7 = (refl, refl, refl)
 
 -- P8: an entry of type 0F00 is LREL, whatever else it holds: its width is 16
-pub p8 : (f : Format) (p : Parts) (nsyms i : ℕ) (e : RelocationEntry) → e.rtype ≡ 0x0F00 → is_thread e ≡ false → own_check f p nsyms i e ≡ Refused (Lrel (record { 0 = i }))
+pub p8 : (f : Format) (p : Parts) (nsyms i : ℕ) (e : RelocationEntry) → e.rtype ≡ 0x0F00 → is_thread e ≡ false → own_check f p nsyms i e ≡ Err (Lrel (record { 0 = i }))
 unfolding own_check is_good is_width is_type
 p8 Xcoff32 p nsyms i e t h = rw (h, t) refl
 p8 Xcoff64 p nsyms i e t h = rw (h, t) refl

@@ -8,13 +8,13 @@ use Rattle.format.specs.Layout.{relocation_layout}
 use Rattle.format.specs.Limit.{file_limit, relocation_limit}
 use Rattle.refusal.specs.declared.Refusal.TheVariants.{Thread, Lrel}
 use Rattle.refusal.specs.declared.ThreadItem.TheVariants.{ThreadSymbol}
-use Rattle.refusal.specs.declared.Verdict.{Verdict}
 use Rattle.refusal.specs.Order.{◌or_else◌, refuse_if}
 use Rattle.parts.specs.declared.Part.{Part}
 use Rattle.parts.specs.declared.Parts.{Parts}
 use Rattle.loader_header.specs.declared.LoaderTables.{LoaderTables}
 use Rattle.relocation.specs.declared.RelocationEntry.{RelocationEntry}
 use Rattle.relocation.specs.declared.FieldPlace.{FieldPlace}
+use Rattle.refusal.specs.Verdict.{Verdict}
 
 -- where relocation entry i starts, from 0
 abbrev pub entry_start : Format → LoaderTables → ℕ → ℕ

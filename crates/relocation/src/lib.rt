@@ -8,7 +8,8 @@ ghost use Rattle.relocation.specs.Relocation.{entry_at, is_type, is_width, bytes
 use format::{Format, VirtualAddress};
 use loader_header::LoaderTables;
 use parts::{Part, Parts};
-use refusal::{LoaderRelocation, Refusal, ThreadItem, Verdict};
+use refusal::{LoaderRelocation, Refusal, ThreadItem};
+use word::Width;
 
 // What a relocation entry holds.
 #[derive(Clone, Copy)]
@@ -37,8 +38,8 @@ fn read_entry(file: &[u8], f: Format, base: usize) -> RelocationEntry
     RelocationEntry {
         address: VirtualAddress(word::read_field(file, base, address)),
         symbol: word::read_field(file, base, symbol),
-        rtype: word::read_field(file, base, word::two(8)),
-        scnum: word::read_field(file, base, word::two(10)),
+        rtype: word::read_field(file, base, Width::Two.at(8)),
+        scnum: word::read_field(file, base, Width::Two.at(10)),
     }
 }
 
@@ -138,18 +139,18 @@ fn is_good(f: Format, p: Parts, nsyms: u64, e: RelocationEntry) -> bool
 }
 
 // THREAD and LREL of entry `i`.
-pub fn check_own(file: &[u8], f: Format, p: Parts, t: LoaderTables, i: u64) -> Verdict
+pub fn check_own(file: &[u8], f: Format, p: Parts, t: LoaderTables, i: u64) -> Result<(), Refusal>
     requires { EntriesInside file.now f t × (i < t.nreloc) × (t.nsyms ≤ 4294967296) }
     ensures { result ≡ own_at file.now f p t i }
 {
     let e = entry_in(file, f, t, i);
     if 0xFFFF_FFFE <= e.symbol {
-        return Verdict::Refused(Refusal::Thread(ThreadItem::ThreadSymbol(LoaderRelocation(i))));
+        return Err(Refusal::Thread(ThreadItem::ThreadSymbol(LoaderRelocation(i))));
     }
     if is_good(f, p, t.nsyms, e) {
-        return Verdict::Accepted;
+        return Ok(());
     }
-    Verdict::Refused(Refusal::Lrel(LoaderRelocation(i)))
+    Err(Refusal::Lrel(LoaderRelocation(i)))
 }
 
 // The field of an entry that is inside its section.
@@ -179,7 +180,7 @@ pub fn place_of(p: Parts, e: RelocationEntry) -> FieldPlace
 
 // The field of entry `i`, which is good by itself.
 pub fn place_at(file: &[u8], f: Format, p: Parts, t: LoaderTables, i: u64) -> FieldPlace
-    requires { EntriesInside file.now f t × (i < t.nreloc) × (own_at file.now f p t i ≡ Verdict.Accepted) }
+    requires { EntriesInside file.now f t × (i < t.nreloc) × (own_at file.now f p t i ≡ Ok tt) }
     ensures { result ≡ place_at file.now f p t i }
 {
     let e = entry_in(file, f, t, i);

@@ -1,16 +1,15 @@
 // Relocation entries listed whole: the module is judged once, and each gets a row of numbers.
 #![tactic(auto)]
 
-ghost use Rattle.std.specs.Prelude.{◌≡◌, ◌*◌, ◌<◌, length};
+ghost use Rattle.std.specs.Prelude.{◌≡◌, ◌<◌, length};
 ghost use Rattle.loadable.specs.Valid.{Valid};
-ghost use Rattle.rows.specs.Rows.{rows_of};
 ghost use Rattle.module_table.specs.Table.{check_by, table_check, rows_by, table_after};
 ghost use Rattle.relocation_table.specs.Rows.{relocation_row, relocations};
 ghost use Rattle.refusal.specs.Order.{if_accepted};
 ghost use Rattle.offset.specs.Report.{report_head};
 
-use loadable::{Loadable, LoadableAnswer};
-use refusal::Verdict;
+use loadable::Loadable;
+use refusal::Refusal;
 
 // The row of relocation entry `i`.
 fn relocation_row(file: &[u8], l: Loadable, i: u64) -> [u64; 8]
@@ -36,44 +35,28 @@ fn relocation_row(file: &[u8], l: Loadable, i: u64) -> [u64; 8]
     ]
 }
 
-fn write_relocations(file: &[u8], l: Loadable, out: &mut [u64])
-    requires { Valid file.now l × (length out.old ≡ 8 * l.tables.nreloc) }
-    ensures { out.new ≡ rows_of (relocation_row file.now l) 0 l.tables.nreloc }
-{
-    let t = l.tables;
-    let count = t.nreloc as usize;
-    let mut i: usize = 0;
-    while i < count {
-        let row = relocation_row(file, l, i as u64);
-        rows::write_row(&row, i * 8, out);
-        i += 1;
-    }
-}
-
 // ROOM 0, or the rows of the module `l`.
-fn list_relocations(file: &[u8], l: Loadable, out: &mut [u64]) -> Verdict
+fn list_relocations(file: &[u8], l: Loadable, out: &mut [u64]) -> Result<(), Refusal>
     requires { Valid file.now l }
-    ensures answer { result ≡ check_by relocations (LoadableAnswer.Found l) (length out.old) }
-    ensures rows { out.new ≡ if_accepted result (rows_by relocations file.now (LoadableAnswer.Found l)) out.old }
+    ensures answer { result ≡ check_by relocations (Ok l) (length out.old) }
+    ensures rows { out.new ≡ if_accepted result (rows_by relocations file.now (Ok l)) out.old }
 {
     let t = l.tables;
-    let v = rows::check_room(out.len() as u64, 8 * t.nreloc);
-    if refusal::refuses(v) {
-        return v;
-    }
-    write_relocations(file, l, out);
-    Verdict::Accepted
+    rows::check_room(out.len() as u64, 8 * t.nreloc)?;
+    let row = |i|
+        requires { Valid file.now l × (i < l.tables.nreloc) }
+        ensures { result ≡ relocation_row file.entry.now l i }
+    { relocation_row(file, l, i) };
+    rows::write_rows(8, t.nreloc, row, out);
+    Ok(())
 }
 
 // A row of 8 numbers for each relocation entry.
-pub fn relocation_table(file: &[u8], out: &mut [u64]) -> Verdict
+pub fn relocation_table(file: &[u8], out: &mut [u64]) -> Result<(), Refusal>
     ensures cause { result ≡ table_check relocations file.now (length out.old) }
     ensures report { report_head file.now result ≡ report_head file.now (table_check relocations file.now (length out.old)) }
     ensures rows { out.new ≡ table_after relocations file.now out.old }
 {
-    let a = loadable::module_of(file);
-    match a {
-        LoadableAnswer::Refused(x) => Verdict::Refused(x),
-        LoadableAnswer::Found(l) => list_relocations(file, l, out),
-    }
+    let l = loadable::module_of(file)?;
+    list_relocations(file, l, out)
 }

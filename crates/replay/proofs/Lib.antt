@@ -1,7 +1,6 @@
 -- The laws of scripts: those that this crate's own proofs cite, the theorem that every list of calls is the list of a script, and what the answer of a
 -- list tells.
 
-pub mod Ends
 pub mod Plans
 pub mod Encode
 pub mod Book

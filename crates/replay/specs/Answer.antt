@@ -1,33 +1,27 @@
 -- What a list of calls answers: how many calls were run, how many of them were accepted, and the last one's own answer.
-use Rattle.std.specs.Prelude.{List, ℕ, length}
-use Rattle.script.specs.Tally.{sum_of, last_of}
+use Rattle.std.specs.Prelude.{List, ℕ, length, None, Ok, Result}
+use Rattle.script.specs.Tally.{sum_of, last_of, accepted_one}
 use Rattle.script.specs.Tally as tally
-use Rattle.history.specs.declared.AnchorAddress.TheVariants.{Nowhere}
-use Rattle.history.specs.declared.CallAnswer.{CallAnswer}
-use Rattle.history.specs.declared.CallAnswer.TheVariants.{Done, Refused}
 use Rattle.history.specs.Images.{Images}
 use Rattle.history.specs.Plan.{Relocatable}
 use Rattle.history.specs.Call.{Call, answer_of, machine_of}
 use Rattle.image.specs.Report.{report_of_call}
 use Rattle.replay.specs.declared.ReplayAnswer.{ReplayAnswer}
 use Rattle.replay.specs.declared.ReplayReport.{ReplayReport}
+use Rattle.refusal.specs.declared.Refusal.{Refusal}
+use Rattle.history.specs.declared.Reached.{Reached}
 
 -- the answer of a call on what the buffers hold
-abbrev pub answer_on : Relocatable → Images → Call → CallAnswer
+abbrev pub answer_on : Relocatable → Images → Call → Result Reached Refusal
 answer_on m x c = answer_of m (length x.text) (length x.dat) c
 
 -- of each call, made on what the last one left
-abbrev pub answers_of : Relocatable → List Call → Images → List CallAnswer
+abbrev pub answers_of : Relocatable → List Call → Images → List (Result Reached Refusal)
 answers_of m cs x = tally.answers_of (machine_of m) (answer_on m) cs x
 
--- 1 of an accepted call, 0 of a refused one
-unfoldable pub accepted_one : CallAnswer → ℕ
-accepted_one (Done r) = 1
-accepted_one (Refused x) = 0
-
 -- it stands for the last answer where no call was run: number 0, item 0, no entry and no TOC
-abbrev pub blank : CallAnswer
-blank = Done (record { entry = Nowhere; toc = Nowhere })
+abbrev pub blank : Result Reached Refusal
+blank = Ok (record { entry = None; toc = None })
 
 unfoldable pub replay_answer : Relocatable → List Call → Images → ReplayAnswer
 replay_answer m cs x = record { calls = length cs; accepted = sum_of accepted_one (answers_of m cs x); last = last_of blank (answers_of m cs x) }

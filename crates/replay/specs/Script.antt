@@ -1,23 +1,22 @@
 -- A list of calls as numbers; a plan is its text address, its data address, how many addresses its list has, and those.
-use Rattle.std.specs.Prelude.{cond, List, ◌∷◌, ℕ, ◌+◌, ◌-◌, length, get_or, take, drop, leb}
+use Rattle.std.specs.Prelude.{List, ◌∷◌, ℕ, ◌+◌, length, get_or}
 use Rattle.script.specs.Script.{Reader}
 use Rattle.script.specs.Script as script
 use Rattle.history.specs.Plan.{Plan}
 use Rattle.history.specs.Call.{Call}
 
 -- where the plan at a place ends, 0 where it is cut short
-unfoldable pub plan_end : List ℕ → ℕ → ℕ
-plan_end s at =
-    cond (leb (at + 3) (length s)) (cond (leb (get_or s (at + 2) 0) (length s - (at + 3))) (at + 3 + get_or s (at + 2) 0) 0) 0
+abbrev pub plan_end : List ℕ → ℕ → ℕ
+plan_end s at = script.plan_end 2 s at
 
 unfoldable pub plan_at : List ℕ → ℕ → Plan
-plan_at s at = record { text = get_or s at 0; dat = get_or s (at + 1) 0; list = take (get_or s (at + 2) 0) (drop (at + 3) s) }
+plan_at s at = record { text = get_or s at 0; dat = get_or s (at + 1) 0; list = script.plan_list 2 s at }
 
 abbrev pub plans : Reader Plan
 plans = record { end = plan_end; plan = plan_at }
 
 abbrev pub call_end : List ℕ → ℕ → ℕ
-call_end s at = script.call_end plans s at
+call_end s at = script.call_end plan_end s at
 
 abbrev pub call_at : List ℕ → ℕ → Call
 call_at s at = script.call_at plans s at

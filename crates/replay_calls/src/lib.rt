@@ -9,11 +9,18 @@ ghost use Rattle.plan.specs.Relocatable.{relocatable_at};
 ghost use Rattle.replay.specs.Script.{plan_end, plan_at, call_end, call_at, calls_of};
 ghost use Rattle.replay.specs.Answer.{replay_answer, report_of_replay};
 
-use history::{AnchorAddress, CallAnswer, Reached};
+use history::Reached;
+use refusal::Refusal;
 use replay::ReplayAnswer;
 
 // Builds for the plan at a place.
-fn do_build(file: &[u8], s: &[u64], at: usize, text: &mut [u8], data: &mut [u8]) -> CallAnswer
+fn do_build(
+    file: &[u8],
+    s: &[u64],
+    at: usize,
+    text: &mut [u8],
+    data: &mut [u8],
+) -> Result<Reached, Refusal>
     requires { plan_end s.now at ≡ 0 → ⊥ }
     ensures cause { result ≡ answer_of (relocatable_at file.now) (length text.old) (length «data».old) (build (plan_at s.now at)) }
     ensures images { images text.new «data».new ≡ effect (relocatable_at file.now) (build (plan_at s.now at)) (images text.old «data».old) }
@@ -24,12 +31,18 @@ fn do_build(file: &[u8], s: &[u64], at: usize, text: &mut [u8], data: &mut [u8])
 }
 
 // Moves from the plan at a place to the one after it.
-fn do_move(file: &[u8], s: &[u64], at: usize, text: &mut [u8], data: &mut [u8]) -> CallAnswer
+fn do_move(
+    file: &[u8],
+    s: &[u64],
+    at: usize,
+    text: &mut [u8],
+    data: &mut [u8],
+) -> Result<Reached, Refusal>
     requires { (plan_end s.now at ≡ 0 → ⊥) × (plan_end s.now (plan_end s.now at) ≡ 0 → ⊥) }
     ensures cause { result ≡ answer_of (relocatable_at file.now) (length text.old) (length «data».old) (move (plan_at s.now at) (plan_at s.now (plan_end s.now at))) }
     ensures images { images text.new «data».new ≡ effect (relocatable_at file.now) (move (plan_at s.now at) (plan_at s.now (plan_end s.now at))) (images text.old «data».old) }
 {
-    let next = replay::plan_end(s, at);
+    let next = script::plan_end::<2>(s, at);
     let from = replay::addresses_at(s, at);
     let from_imports = replay::imports_at(s, at);
     let to = replay::addresses_at(s, next);
@@ -38,7 +51,13 @@ fn do_move(file: &[u8], s: &[u64], at: usize, text: &mut [u8], data: &mut [u8]) 
 }
 
 // Makes the call at a place.
-fn answer_call(file: &[u8], s: &[u64], at: usize, text: &mut [u8], data: &mut [u8]) -> CallAnswer
+fn answer_call(
+    file: &[u8],
+    s: &[u64],
+    at: usize,
+    text: &mut [u8],
+    data: &mut [u8],
+) -> Result<Reached, Refusal>
     requires { call_end s.now at ≡ 0 → ⊥ }
     ensures cause { result ≡ answer_of (relocatable_at file.now) (length text.old) (length «data».old) (call_at s.now at) }
     ensures images { images text.new «data».new ≡ effect (relocatable_at file.now) (call_at s.now at) (images text.old «data».old) }
@@ -57,15 +76,15 @@ pub fn replay(file: &[u8], script: &[u64], text: &mut [u8], data: &mut [u8]) -> 
     ensures images { images text.new «data».new ≡ book_images (relocatable_at file.now) (book_after (relocatable_at file.now) (calls_of script.now) (images text.old «data».old)) }
 {
     let blank = Reached {
-        entry: AnchorAddress::Nowhere,
-        toc: AnchorAddress::Nowhere,
+        entry: None,
+        toc: None,
     };
-    let mut last = CallAnswer::Done(blank);
+    let mut last = Ok(blank);
     let mut calls: u64 = 0;
     let mut accepted: u64 = 0;
     let mut at: usize = 0;
     while at < script.len() {
-        let end = replay::call_end(script, at);
+        let end = script::call_end::<2>(script, at);
         if end == 0 {
             return ReplayAnswer {
                 calls,
@@ -75,7 +94,7 @@ pub fn replay(file: &[u8], script: &[u64], text: &mut [u8], data: &mut [u8]) -> 
         }
         last = answer_call(file, script, at, text, data);
         calls += 1;
-        accepted += replay::accepted_one(last);
+        accepted += script::accepted_one(&last);
         at = end;
     }
     ReplayAnswer {

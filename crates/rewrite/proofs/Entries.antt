@@ -15,7 +15,7 @@ use Rattle.loadable.specs.Valid.{Valid}
 use Rattle.history.specs.declared.Relocation.{Relocation}
 use Rattle.history.specs.Images.{Shifts, signed}
 use Rattle.plan.specs.Relocatable.{relocation_at, relocations_from}
-use Rattle.plan.proofs.Symbols.{entries-start, entries-turn, entries-end}
+use Rattle.plan.proofs.Symbols.{entries-turn, entries-end}
 use Rattle.apply.proofs.Stands.{stands}
 use Rattle.apply.proofs.Entries.{field_alike, field-inside}
 use Rattle.rewrite.specs.InPlace.{place_entry, place_all}
@@ -58,9 +58,6 @@ module _ (file : List ℕ) (l : Loadable) (i : ℕ) (e : Relocation) where
 -- ---- a loop over the entries, by the work that is left
 
 module _ (file : List ℕ) (l : Loadable) (p : Parts) (s : Shifts) (n : ℕ) where
-  pub place-start : (bs : List ℕ) → place_all p (relocations_from file l 0 (n - 0)) s bs ≡ place_all p (relocations_from file l 0 n) s bs
-  place-start bs = rw (← entries-start file l n) refl
-
   pub place-turn : (i : ℕ) (xs ys : List ℕ) → i < n → ys ≡ place_entry p (relocation_at file l i) s xs
       → place_all p (relocations_from file l (i + 1) (n - (i + 1))) s ys ≡ place_all p (relocations_from file l i (n - i)) s xs
   unfolding place_all

@@ -10,8 +10,6 @@ use Rattle.format.specs.Layout.{header_layout, aux_layout}
 use Rattle.refusal.specs.declared.Refusal.{Refusal}
 use Rattle.refusal.specs.declared.Refusal.TheVariants as refusal
 use Rattle.refusal.specs.declared.RoomItem.TheVariants.{AddressList, FileBuffer}
-use Rattle.refusal.specs.declared.Verdict.{Verdict}
-use Rattle.refusal.specs.declared.Verdict.TheVariants as verdict
 use Rattle.refusal.specs.Refusal.{is_refused}
 use Rattle.refusal.specs.Order.{◌or_else◌, refuse_if, if_accepted}
 use Rattle.refusal.proofs.Order.{accepted-first, accepted-rest, accepted-test, accepted-equal, go_on, stop}
@@ -20,7 +18,6 @@ use Rattle.header.specs.Open.{open_of}
 use Rattle.header.specs.Inside.{Inside}
 use Rattle.header.proofs.Accepted.{opened_inside}
 use Rattle.loadable.specs.declared.Loadable.{Loadable}
-use Rattle.loadable.specs.declared.LoadableAnswer.TheVariants as answer
 use Rattle.loadable.specs.Loadable.{loadable_at}
 use Rattle.loadable.specs.Valid.{Valid}
 use Rattle.loadable.proofs.Accepted.{loadable-valid}
@@ -46,6 +43,8 @@ use Rattle.address_put.specs.New.{ForFormat}
 use Rattle.rewrite.specs.Ready.{Ready, check_of}
 use Rattle.rewrite.specs.InPlace.{place_all}
 use Rattle.rewrite.proofs.InPlace.{images-placed}
+use Rattle.std.specs.Prelude.{Err, Ok}
+use Rattle.refusal.specs.Verdict.{Verdict}
 
 -- ---- what is known of a module
 
@@ -102,24 +101,24 @@ module _ (file : List ℕ) (y : Summary) (l : Loadable) (p : Plan) (n : ℕ) {v 
     unfolding check_of
     rest = go_on (plan_check (relocatable_of file l) p) _ (ap is_refused (sym q) ∙ e)
 
-    pub shared-refused : is_shared file y l ≡ true → verdict.Refused refusal.Shared ≡ check_of file y l p n
+    pub shared-refused : is_shared file y l ≡ true → Err refusal.Shared ≡ check_of file y l p n
     shared-refused h = sym (rest ∙ rw h refl)
 
     module _ (f : is_shared file y l ≡ false) where
-      pub all-accepted : n ≡ length file → verdict.Accepted ≡ check_of file y l p n
+      pub all-accepted : n ≡ length file → (Ok tt) ≡ check_of file y l p n
       all-accepted h = sym (rest ∙ rw f (unfold output_room in rw (eq-eqb n (length file) h) refl))
 
-      pub room-refused : (n ≡ length file → ⊥) → verdict.Refused (refusal.Room FileBuffer) ≡ check_of file y l p n
+      pub room-refused : (n ≡ length file → ⊥) → Err (refusal.Room FileBuffer) ≡ check_of file y l p n
       room-refused h = sym (rest ∙ rw f (unfold output_room in rw (ne_eqb n (length file) h) refl))
 
 -- ---- by what the file is
 
 module _ (file : List ℕ) (p : Plan) where
-  pub check-refused : (x : Refusal) (n : ℕ) → answer.Refused x ≡ loadable_at file → verdict.Refused x ≡ rewrite_check file p n
+  pub check-refused : (x : Refusal) (n : ℕ) → Err x ≡ loadable_at file → Err x ≡ rewrite_check file p n
   unfolding rewrite_check relocatable_at relocatable_by plan_check no_module
   check-refused x n e = rw (← e) refl
 
-  pub check-found : (l : Loadable) (n : ℕ) {y : Summary} {v : Verdict} → loadable_at file ≡ answer.Found l → y ≡ (open_of file).summary → v ≡ check_of file y l p n → v ≡ rewrite_check file p n
+  pub check-found : (l : Loadable) (n : ℕ) {y : Summary} {v : Verdict} → loadable_at file ≡ Ok l → y ≡ (open_of file).summary → v ≡ check_of file y l p n → v ≡ rewrite_check file p n
   unfolding rewrite_check relocatable_at relocatable_by check_of
   check-found l n e q h = rw e (h ∙ rw q refl)
 
@@ -128,16 +127,16 @@ module _ (file : List ℕ) (p : Plan) where
   output-refused out {v} e h = rw (← e) (by-verdict v h)
     where
       by-verdict : (w : Verdict) → is_refused w ≡ true → out ≡ if_accepted w (written_at file p) out
-      by-verdict verdict.Accepted q = cc
-      by-verdict (verdict.Refused x) q = refl
+      by-verdict (Ok tt) q = cc
+      by-verdict (Err x) q = refl
 
-  pub output-written : (l : Loadable) (out xs : List ℕ) {v : Verdict} → loadable_at file ≡ answer.Found l → v ≡ rewrite_check file p (length out) → is_refused v ≡ false → xs ≡ written file l p → xs ≡ output_after file p out
+  pub output-written : (l : Loadable) (out xs : List ℕ) {v : Verdict} → loadable_at file ≡ Ok l → v ≡ rewrite_check file p (length out) → is_refused v ≡ false → xs ≡ written file l p → xs ≡ output_after file p out
   unfolding output_after written_at
   output-written l out xs {v} e q h w = rw (← q, e) (by-verdict v h)
     where
       by-verdict : (u : Verdict) → is_refused u ≡ false → xs ≡ if_accepted u (written file l p) out
-      by-verdict verdict.Accepted q = w
-      by-verdict (verdict.Refused x) q = cc
+      by-verdict (Ok tt) q = w
+      by-verdict (Err x) q = cc
 
 -- ---- the code's steps
 
@@ -179,20 +178,20 @@ module _ (file : List ℕ) (y : Summary) (l : Loadable) (r : Ready file y l) (at
 
 -- ---- what an accepted plan tells
 
-listed : (file : List ℕ) (l : Loadable) (p : Plan) → list_check (relocatable_of file l) p ≡ verdict.Accepted → length p.list ≡ l.tables.nsyms
+listed : (file : List ℕ) (l : Loadable) (p : Plan) → list_check (relocatable_of file l) p ≡ Ok tt → length p.list ≡ l.tables.nsyms
 unfolding list_check list_room relocatable_of
 listed file l p k = accepted-equal (length p.list) (length (relocatable_of file l).symbols) (refusal.Room AddressList) k ∙ length_symbols file l 0 l.tables.nsyms
 
-plan-listed : (m : Relocatable) (p : Plan) → plan_check m p ≡ verdict.Accepted → list_check m p ≡ verdict.Accepted
+plan-listed : (m : Relocatable) (p : Plan) → plan_check m p ≡ Ok tt → list_check m p ≡ Ok tt
 unfolding plan_check
 plan-listed m p e = accepted-first (list_check m p) (fit_check m p) (accepted-rest m.verdict _ e)
 
-room : (len n : ℕ) → output_room len n ≡ verdict.Accepted → n ≡ len
+room : (len n : ℕ) → output_room len n ≡ Ok tt → n ≡ len
 unfolding output_room
 room len n e = accepted-equal n len (refusal.Room FileBuffer) e
 
 -- parts that share no byte, a list of as many addresses as loader symbols, an output of the file's length
-pub accepted-known : (file : List ℕ) (y : Summary) (l : Loadable) (p : Plan) (n : ℕ) → check_of file y l p n ≡ verdict.Accepted
+pub accepted-known : (file : List ℕ) (y : Summary) (l : Loadable) (p : Plan) (n : ℕ) → check_of file y l p n ≡ Ok tt
     → (is_shared file y l ≡ false) × (length p.list ≡ l.tables.nsyms) × (n ≡ length file)
 unfolding check_of
 accepted-known file y l p n e =

@@ -1,21 +1,20 @@
 -- Serves internal contracts only: a file that is the module l and opens to y, and the refusals that are left then.
-use Rattle.std.specs.Prelude.{◌≡◌, List, ℕ, length}
+use Rattle.std.specs.Prelude.{◌≡◌, List, ℕ, length, Ok}
 use Rattle.refusal.specs.declared.Refusal.TheVariants as refusal
-use Rattle.refusal.specs.declared.Verdict.{Verdict}
 use Rattle.refusal.specs.Order.{◌or_else◌, refuse_if}
 use Rattle.header.specs.declared.Summary.{Summary}
 use Rattle.header.specs.Open.{open_of}
 use Rattle.loadable.specs.declared.Loadable.{Loadable}
-use Rattle.loadable.specs.declared.LoadableAnswer.TheVariants.{Found}
 use Rattle.loadable.specs.Loadable.{loadable_at}
 use Rattle.history.specs.Plan.{Plan, plan_check}
 use Rattle.plan.specs.Relocatable.{relocatable_of}
 use Rattle.written.specs.Shared.{is_shared}
 use Rattle.written.specs.Write.{output_room}
+use Rattle.refusal.specs.Verdict.{Verdict}
 
 pub record Ready (file : List ℕ) (y : Summary) (l : Loadable) : Type 0 where
   pub opens : y ≡ (open_of file).summary
-  pub loads : loadable_at file ≡ Found l
+  pub loads : loadable_at file ≡ Ok l
 
 -- ROOM 2, PLAN, SHARED, ROOM 0
 unfoldable pub check_of : List ℕ → Summary → Loadable → Plan → ℕ → Verdict

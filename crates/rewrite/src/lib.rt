@@ -15,8 +15,8 @@ ghost use Rattle.rewrite.specs.Ready.{Ready, check_of};
 
 use displacement::Addresses;
 use header::Summary;
-use loadable::{Loadable, LoadableAnswer};
-use refusal::{Refusal, RoomItem, Verdict};
+use loadable::Loadable;
+use refusal::{Refusal, RoomItem};
 
 // ---- the images, built where the copy has their raw bytes
 
@@ -51,11 +51,8 @@ fn place_entries(file: &[u8], l: Loadable, d: [u64; 3], imports: &[u64], out: &m
     ensures { ForPlans (relocatable_of file.now l) d false imports.now imports.now (λ s. out.new ≡ place_all l.layout.parts (relocations_from file.now l 0 l.tables.nreloc) s out.old) }
 {
     let t = l.tables;
-    let count = t.nreloc;
-    let mut i: u64 = 0;
-    while i < count {
+    for i in 0..t.nreloc {
         place_entry(file, l, i, d, imports, out);
-        i += 1;
     }
 }
 
@@ -84,41 +81,35 @@ fn check_write(
     at: Addresses,
     imports: &[u64],
     output: usize,
-) -> Verdict
+) -> Result<(), Refusal>
     requires { Ready file.now y l }
     ensures { result ≡ check_of file.now y l (plan_of at imports.now) output }
 {
-    let v = call_check::check_plan(file, l, at, imports);
-    if refusal::refuses(v) {
-        return v;
-    }
+    call_check::check_plan(file, l, at, imports)?;
     if shared_parts::shares(file, y, l) {
-        return Verdict::Refused(Refusal::Shared);
+        return Err(Refusal::Shared);
     }
     if output == file.len() {
-        return Verdict::Accepted;
+        return Ok(());
     }
-    Verdict::Refused(Refusal::Room(RoomItem::FileBuffer))
+    Err(Refusal::Room(RoomItem::FileBuffer))
 }
 
 // Writes the module into `output` for a plan. A refusal writes nothing.
-pub fn write_module(file: &[u8], at: Addresses, imports: &[u64], output: &mut [u8]) -> Verdict
+pub fn write_module(
+    file: &[u8],
+    at: Addresses,
+    imports: &[u64],
+    output: &mut [u8],
+) -> Result<(), Refusal>
     ensures cause { result ≡ rewrite_check file.now (plan_of at imports.now) (length output.old) }
     ensures report { report_head file.now result ≡ report_head file.now (rewrite_check file.now (plan_of at imports.now) (length output.old)) }
     ensures output { output.new ≡ output_after file.now (plan_of at imports.now) output.old }
 {
-    let a = loadable::module_of(file);
-    match a {
-        LoadableAnswer::Refused(x) => Verdict::Refused(x),
-        LoadableAnswer::Found(l) => {
-            let o = header::open(file);
-            let y = o.summary;
-            let v = check_write(file, y, l, at, imports, output.len());
-            if refusal::refuses(v) {
-                return v;
-            }
-            write_valid(file, y, l, at, imports, output);
-            Verdict::Accepted
-        }
-    }
+    let l = loadable::module_of(file)?;
+    let o = header::open(file);
+    let y = o.summary;
+    check_write(file, y, l, at, imports, output.len())?;
+    write_valid(file, y, l, at, imports, output);
+    Ok(())
 }

@@ -11,7 +11,6 @@ use borrow.Author.Tests.{ltb-true, leb-true, not-false}
 use Rattle.word.proofs.Test.{and_first, and_second}
 use Rattle.update.specs.Update.{remainder}
 use Rattle.update.proofs.Remainder.{remainder-lt, remainder-small}
-use Rattle.refusal.specs.declared.Verdict.TheVariants.{Accepted}
 use Rattle.refusal.specs.declared.Refusal.TheVariants as refusal
 use Rattle.refusal.specs.declared.PlanItem.TheVariants.{TextAddress, DataAddress}
 use Rattle.refusal.specs.Order.{refuse_if}
@@ -25,6 +24,7 @@ use Rattle.history.specs.Plan.{Relocatable, Plan, limit_of, displacement_of, fit
 use Rattle.rebase.specs.Rebase.{new_address}
 use Rattle.written.specs.Moved.{Fresh}
 use Rattle.rewritten.proofs.Parts.{Moves}
+use Rattle.std.specs.Prelude.{Ok}
 
 -- an address moved with its section keeps its distance, where that stays below the limit
 sum-exact : (a d q : ℕ) → pos (a + d) +ℤ (pos q -ℤ pos a) ≡ pos (q + d)
@@ -47,13 +47,13 @@ pub record PlanFits (m : Relocatable) (p : Plan) : Type 0 where
   pub text-end : p.text + length m.raw.text ≤ limit_of m
   pub dat : p.dat < limit_of m
   pub data-end : p.dat + length m.raw.dat ≤ limit_of m
-  pub imports : (k : ℕ) → k < length m.symbols → import_check m p.list k ≡ Accepted
+  pub imports : (k : ℕ) → k < length m.symbols → import_check m p.list k ≡ Ok tt
 
 fits-known : (limit a size : ℕ) → fits limit a size ≡ true → (a < limit) × (a + size ≤ limit)
 unfolding fits
 fits-known limit a size e = (ltb-true a limit (and_first (ltb a limit) _ e), leb-true (a + size) limit (and_second (ltb a limit) _ e))
 
-pub plan-fits : (m : Relocatable) (p : Plan) → plan_check m p ≡ Accepted → PlanFits m p
+pub plan-fits : (m : Relocatable) (p : Plan) → plan_check m p ≡ Ok tt → PlanFits m p
 unfolding plan_check fit_check
 plan-fits m p e =
     let t = fits (limit_of m) p.text (length m.raw.text) in
@@ -101,7 +101,7 @@ module _ (m : Relocatable) (p : Plan) (k : PlanFits m p) where
   text-small a = let t = k.text in remainder-lt (limit_of m) (omega arith) (pos a +ℤ displacement_of m p followed.Text)
 
   -- new addresses fit their fields
-  pub fresh : (i : ℕ) (f : Followed) → address_check (limit_of m) p.list i f ≡ Accepted → Fresh (new_address m p) (limit_of m) f
+  pub fresh : (i : ℕ) (f : Followed) → address_check (limit_of m) p.list i f ≡ Ok tt → Fresh (new_address m p) (limit_of m) f
   unfolding new_address address_check
   fresh i followed.Text e = text-small
   fresh i followed.Data e = data-small

@@ -10,7 +10,6 @@ use borrow.Author.Tests.{eq-eqb, ne_eqb, le-leb}
 use Rattle.word.proofs.Test.{and_first}
 use Rattle.format.specs.declared.Format.{Format}
 use Rattle.format.specs.declared.SectionNumber.{SectionNumber}
-use Rattle.refusal.specs.declared.Verdict.TheVariants.{Accepted}
 use Rattle.parts.specs.declared.Part.{Part}
 use Rattle.parts.specs.declared.Parts.{Parts}
 use Rattle.module.specs.Module.{image_length}
@@ -29,6 +28,7 @@ use Rattle.rebase.specs.Rebase.{rebased_symbol}
 use Rattle.written.specs.Written.{entry_follows}
 use Rattle.written.specs.Moved.{moved_part, moved_parts, moved_entry, moved_relocation}
 use Rattle.rewritten.proofs.Parts.{Moves}
+use Rattle.std.specs.Prelude.{Ok}
 
 -- ---- relocation entries
 
@@ -81,7 +81,7 @@ module _ (new : Followed → ℕ → ℕ) (limit : ℕ) (p : Parts) (v : Moves n
       (data-address e h n) (held-data p e h n))
 
   -- an entry that is good by itself stays so
-  pub own-moved : (f : Format) (nsyms i : ℕ) (e : RelocationEntry) → own_check f p nsyms i e ≡ Accepted → own_check f (moved_parts new p) nsyms i (moved e) ≡ Accepted
+  pub own-moved : (f : Format) (nsyms i : ℕ) (e : RelocationEntry) → own_check f p nsyms i e ≡ Ok tt → own_check f (moved_parts new p) nsyms i (moved e) ≡ Ok tt
   unfolding own_check is_good
   own-moved f nsyms i e q =
       let h : is_held p e ≡ true = own_held f p nsyms i e q in

@@ -12,8 +12,6 @@ use Rattle.word.proofs.Test.{or-first, past-no}
 use Rattle.format.specs.declared.Format.{Format}
 use Rattle.section_kind.specs.declared.SectionKind.{SectionKind}
 use Rattle.format.specs.declared.SectionNumber.{SectionNumber}
-use Rattle.section_kind.specs.declared.KindAnswer.{KindAnswer}
-use Rattle.section_kind.specs.declared.KindAnswer.TheVariants.{Allowed, NotAllowed}
 use Rattle.section_kind.specs.Kind.{kind_of, flags_of, is_placed_kind}
 use Rattle.format.specs.Layout.{address_limit}
 use Rattle.refusal.specs.declared.Refusal.TheVariants as refusal
@@ -21,12 +19,12 @@ use Rattle.refusal.specs.declared.BoundsItem.TheVariants.{RawData}
 use Rattle.refusal.specs.declared.AddressItem.TheVariants.{Misplaced}
 use Rattle.section.specs.declared.SectionHeader.{SectionHeader}
 use Rattle.section.specs.declared.Section.{Section}
-use Rattle.section.specs.declared.SectionAnswer.TheVariants.{Found, Refused}
 use Rattle.section.specs.Section.{has_raw_data, raw_data_past, misplaced, section_of, judge_kind, judge_section}
 use Rattle.parts.specs.Sections.{flag_at, tally}
 use Rattle.history.specs.declared.Followed.{Followed}
 use Rattle.written.specs.Written.{flag_follows}
 use Rattle.written.specs.Moved.{moved_header, moved_section}
+use Rattle.std.specs.Prelude.{Err, None, Ok, Option, Some}
 
 -- ---- one section
 
@@ -56,14 +54,14 @@ module _ (new : Followed → ℕ → ℕ) (f : Format) (len : ℕ) (n : SectionN
   unfolding section_of has_raw_data
   section-moved k h = refl
 
-  judged-here : (k : SectionKind) (h : SectionHeader) → raw_data_past k len h ≡ false → misplaced f k h ≡ false → kind_of h.flags ≡ Allowed k
+  judged-here : (k : SectionKind) (h : SectionHeader) → raw_data_past k len h ≡ false → misplaced f k h ≡ false → kind_of h.flags ≡ Some k
       → (is_placed_kind k ≡ true → new (flag_follows (flags_of k)) h.vaddr.0 + h.size ≤ address_limit f)
-      → judge_section f len (header_of (section_of k h).kind h) n ≡ Found (moved_section new (section_of k h))
+      → judge_section f len (header_of (section_of k h).kind h) n ≡ Ok (moved_section new (section_of k h))
   unfolding judge_section judge_kind section_of
   judged-here k h ea eb ek fits = rw (ek, raw-moved k h, ea, misplaced-moved k h eb fits, section-moved k h) refl
 
   abbrev Moved : SectionHeader → Section → Type 0
-  Moved h s = judge_section f len (header_of s.kind h) n ≡ Found (moved_section new s)
+  Moved h s = judge_section f len (header_of s.kind h) n ≡ Ok (moved_section new s)
 
   abbrev Fits : Section → Type 0
   Fits s = is_placed_kind s.kind ≡ true → new (flag_follows (flags_of s.kind)) s.vaddr.0 + s.size ≤ address_limit f
@@ -73,21 +71,21 @@ module _ (new : Followed → ℕ → ℕ) (f : Format) (len : ℕ) (n : SectionN
   fits-here k h g = g
 
   by_tests : (k : SectionKind) (h : SectionHeader) (a b : Bool) (s : Section) → raw_data_past k len h ≡ a → misplaced f k h ≡ b
-      → cond a (Refused (refusal.Bounds (RawData n))) (cond b (Refused (refusal.Address (Misplaced n))) (Found (section_of k h))) ≡ Found s
-      → Fits s → kind_of h.flags ≡ Allowed k → Moved h s
+      → cond a (Err (refusal.Bounds (RawData n))) (cond b (Err (refusal.Address (Misplaced n))) (Ok (section_of k h))) ≡ Ok s
+      → Fits s → kind_of h.flags ≡ Some k → Moved h s
   by_tests k h true b s ea eb q fits ek = cc
   by_tests k h false true s ea eb q fits ek = cc
   by_tests k h false false s ea eb q fits ek =
       let z : section_of k h ≡ s = cc in
       subst (λ (t : Section). Moved h t) z (judged-here k h ea eb ek (fits-here k h (subst (λ (t : Section). Fits t) (sym z) fits)))
 
-  by_kind : (h : SectionHeader) (s : Section) (a : KindAnswer) → kind_of h.flags ≡ a → judge_kind f len h n a ≡ Found s → Fits s → Moved h s
+  by_kind : (h : SectionHeader) (s : Section) (a : Option SectionKind) → kind_of h.flags ≡ a → judge_kind f len h n a ≡ Ok s → Fits s → Moved h s
   unfolding judge_kind
-  by_kind h s NotAllowed ek q fits = cc
-  by_kind h s (Allowed k) ek q fits = by_tests k h (raw_data_past k len h) (misplaced f k h) s refl refl q fits ek
+  by_kind h s None ek q fits = cc
+  by_kind h s (Some k) ek q fits = by_tests k h (raw_data_past k len h) (misplaced f k h) s refl refl q fits ek
 
   -- a section that is accepted is accepted with its new addresses
-  pub judge-moved : (h : SectionHeader) (s : Section) → judge_section f len h n ≡ Found s → Fits s → Moved h s
+  pub judge-moved : (h : SectionHeader) (s : Section) → judge_section f len h n ≡ Ok s → Fits s → Moved h s
   judge-moved h s q fits = by_kind h s (kind_of h.flags) refl (unfold judge_section in q) fits
 
 -- ---- which section is which

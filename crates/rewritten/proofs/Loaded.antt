@@ -13,7 +13,6 @@ use Rattle.format.specs.declared.NameField.{NameField}
 use Rattle.format.specs.declared.NameField.TheVariants.{Short, Offset}
 use Rattle.format.specs.Layout.{loader_symbol_length, relocation_layout, address_limit}
 use Rattle.format.specs.Range.{bytes_of}
-use Rattle.refusal.specs.declared.Verdict.TheVariants.{Accepted}
 use Rattle.refusal.proofs.Order.{accepted-rest, first-all}
 use Rattle.parts.specs.declared.Parts.{Parts}
 use Rattle.parts.specs.Sections.{parts_of}
@@ -28,7 +27,6 @@ use Rattle.relocation.specs.declared.RelocationEntry.{RelocationEntry}
 use Rattle.relocation.specs.Relocation as relocation
 use Rattle.relocation.proofs.Entries.{own_held, entry_whole}
 use Rattle.loadable.specs.declared.Loadable.{Loadable}
-use Rattle.loadable.specs.declared.LoadableAnswer.TheVariants as answer
 use Rattle.loader_entries.specs.Entries.{entry_check, entries_check}
 use Rattle.loadable.specs.Loadable.{loadable_at}
 use Rattle.loadable.specs.Valid.{Valid}
@@ -48,6 +46,7 @@ use Rattle.written.proofs.Found.{LoadableFound, loadable-at, tables-are}
 use Rattle.rewritten.proofs.Read.{w4, w5, length4, length5, loader-read, ids-read, names-read, symbol-read, symbol-before, entry_read, entry-before}
 use Rattle.rewritten.proofs.Opens.{Ready, W}
 use Rattle.rewritten.proofs.Loads.{same_format, written-module}
+use Rattle.std.specs.Prelude.{Ok}
 
 -- whether a name lies anywhere depends on the string table alone
 found-same : (r : FileRange) (base i : ℕ) (a : NameField) {xs ys : List ℕ} → Same r.start.0 r.length xs ys → symbol.is_found (symbol.name_in xs r base i a) ≡ symbol.is_found (symbol.name_in ys r base i a)
@@ -143,7 +142,7 @@ module _ (new : Followed → ℕ → ℕ) (x : Images) (file : List ℕ) (f : Fo
   unfolding symbols_check
   symbols-kept = first-same (symbol.symbol_check ws F (moved_parts new m.parts) t) (symbol.symbol_check file F m.parts t) 0 t.nsyms (λ k b. symbol-kept k (omega arith))
 
-  loader-pass : loader_check ws (moved_module new m) ≡ Accepted
+  loader-pass : loader_check ws (moved_module new m) ≡ Ok tt
   unfolding loader_check
   loader-pass = rw (header-kept, tables-kept, symbols-kept, sym lf.tables) lf.check
 
@@ -173,10 +172,10 @@ module _ (new : Followed → ℕ → ℕ) (x : Images) (file : List ℕ) (f : Fo
         ∙ relocation-put new file F (entry_follows m.parts e) ebase (w5 new x file (summary_as f file) l) entry-room (fits (entry_follows m.parts e) entry-fresh) before
         ∙ ap (moved_relocation new (entry_follows m.parts e)) (sym (relocation-same F ebase before))
 
-    own-known : relocation.own_check F m.parts t.nsyms i e ≡ Accepted
+    own-known : relocation.own_check F m.parts t.nsyms i e ≡ Ok tt
     own-known = unfold relocation.own_at in v.own i b
 
-    own-pass : relocation.own_at ws F (moved_parts new m.parts) t i ≡ Accepted
+    own-pass : relocation.own_at ws F (moved_parts new m.parts) t i ≡ Ok tt
     unfolding relocation.own_at
     own-pass = ap (relocation.own_check F (moved_parts new m.parts) t.nsyms i) entry-moved ∙ own-moved new (address_limit f) m.parts moves holds F t.nsyms i e own-known
 
@@ -187,19 +186,19 @@ module _ (new : Followed → ℕ → ℕ) (x : Images) (file : List ℕ) (f : Fo
         ap (relocation.place_of (moved_parts new m.parts)) entry-moved
         ∙ place-moved new (address_limit f) m.parts moves holds e (own_held F m.parts t.nsyms i e own-known) (ℕ_discrete e.scnum m.parts.text.number.0)
 
-  entry-pass : (i : ℕ) → i < t.nreloc → entry_check ws F (moved_parts new m.parts) t i ≡ Accepted
+  entry-pass : (i : ℕ) → i < t.nreloc → entry_check ws F (moved_parts new m.parts) t i ≡ Ok tt
   unfolding entry_check
   entry-pass i b =
       let apart = meets-same (relocation.place_at ws F (moved_parts new m.parts) t) (relocation.place_at file F m.parts t) i (λ j c. place_kept j (omega arith)) in
       rw (own-pass i b, apart)
       (accepted-rest (relocation.own_at file F m.parts t i) _ (first-all (entry_check file F m.parts t) t.nreloc 0 (unfold entries_check in lf.entries) i (omega arith) (omega arith)))
 
-  entries-pass : entries_check ws F (moved_parts new m.parts) t ≡ Accepted
+  entries-pass : entries_check ws F (moved_parts new m.parts) t ≡ Ok tt
   unfolding entries_check
   entries-pass = accept-all (entry_check ws F (moved_parts new m.parts) t) 0 t.nreloc (λ i b. entry-pass i (omega arith))
 
   -- a written file is a loadable module, with the new addresses
-  pub written-loadable : loadable_at ws ≡ answer.Found (record { layout = moved_module new m; tables = t })
+  pub written-loadable : loadable_at ws ≡ Ok (record { layout = moved_module new m; tables = t })
   written-loadable =
       loadable-at ws (record { layout = moved_module new m; tables = t })
       (record { sections = written-module new x file f l g; check = loader-pass; tables = tables-kept; entries = entries-pass })

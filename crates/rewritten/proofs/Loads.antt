@@ -9,7 +9,6 @@ use lib.ListN.{length, get_or}
 use lib.Dec.{ltb}
 use Rattle.format.specs.declared.Format.{Format}
 use Rattle.format.specs.Layout.{header_layout, aux_layout, address_limit}
-use Rattle.refusal.specs.declared.Verdict.TheVariants.{Accepted}
 use Rattle.refusal.specs.Order.{refuse_if}
 use Rattle.refusal.proofs.Order.{accepted-first, accepted-rest, accepted-test}
 use Rattle.file_header.specs.declared.FileHeader.{FileHeader}
@@ -23,7 +22,6 @@ use Rattle.auxiliary.specs.Auxiliary.{aux_at}
 use Rattle.parts.specs.declared.Parts.{Parts}
 use Rattle.parts.specs.Sections.{tallies_of, one_each, parts_of, thread_check}
 use Rattle.module.specs.declared.Module.{Module}
-use Rattle.module.specs.declared.ModuleAnswer.TheVariants as module-answer
 use Rattle.module.specs.Module.{image_length, parts_check, aux_of, module_check, module_with, module_at}
 use Rattle.module.proofs.Extent.{parts-image}
 use Rattle.loadable.specs.declared.Loadable.{Loadable}
@@ -40,6 +38,7 @@ use Rattle.rewritten.proofs.Parts.{with_sections, tallies-moved, thread-moved, p
 use Rattle.written.proofs.Found.{module-at}
 use Rattle.rewritten.proofs.Read.{w2, w3, length2, aux-read, aux-before}
 use Rattle.rewritten.proofs.Opens.{Ready, W, format-of, sections-count, section-moved, written-opens}
+use Rattle.std.specs.Prelude.{Ok}
 
 -- a module with new addresses, in terms of its parts
 module-is : (new : Followed → ℕ → ℕ) (F : Format) (p : Parts) (a : AuxHeader) (fe ft : Followed) → fe ≡ anchor_follows (module_with F p a).parts (module_with F p a).entry → ft ≡ anchor_follows (module_with F p a).parts (module_with F p a).toc
@@ -48,14 +47,14 @@ unfolding module_with
 module-is new F p a fe ft ee et ei = rw (ee, et, ei) refl
 
 -- the checks before the parts
-pub module-parts : (file : List ℕ) (y : Summary) → module_check file y ≡ Accepted → parts_check (parts_of y) (aux_of file y) ≡ Accepted
+pub module-parts : (file : List ℕ) (y : Summary) → module_check file y ≡ Ok tt → parts_check (parts_of y) (aux_of file y) ≡ Ok tt
 unfolding module_check
 module-parts file y e =
     accepted-rest (thread_check y) _ (accepted-rest (refuse_if (not (one_each (tallies_of y))) _) _ (accepted-rest (refuse_if (ltb y.opthdr (aux_layout y.format).length) _) _ e))
 
 -- a summary and a file that differ in nothing that these checks read
-module-again : (file ys : List ℕ) (y z : Summary) → module_check file y ≡ Accepted → z.opthdr ≡ y.opthdr → z.format ≡ y.format → tallies_of z ≡ tallies_of y → thread_check z ≡ thread_check y
-    → parts_check (parts_of z) (aux_of ys z) ≡ Accepted → module_check ys z ≡ Accepted
+module-again : (file ys : List ℕ) (y z : Summary) → module_check file y ≡ Ok tt → z.opthdr ≡ y.opthdr → z.format ≡ y.format → tallies_of z ≡ tallies_of y → thread_check z ≡ thread_check y
+    → parts_check (parts_of z) (aux_of ys z) ≡ Ok tt → module_check ys z ≡ Ok tt
 unfolding module_check
 module-again file ys y z e o f t h p =
     let r = accepted-rest (refuse_if (ltb y.opthdr (aux_layout y.format).length) _) _ e in
@@ -127,13 +126,13 @@ module _ (new : Followed → ℕ → ℕ) (x : Images) (file : List ℕ) (f : Fo
   parts_are : parts_of z ≡ moved_parts new (parts_of y)
   parts_are = parts-moved new y z.sections moved-sections g.still g.ones
 
-  parts-good : parts_check (parts_of y) (aux_of file y) ≡ Accepted
+  parts-good : parts_check (parts_of y) (aux_of file y) ≡ Ok tt
   parts-good = module-parts file y g.check
 
-  parts-pass : parts_check (parts_of z) (aux_of (W new x file f l g) z) ≡ Accepted
+  parts-pass : parts_check (parts_of z) (aux_of (W new x file f l g) z) ≡ Ok tt
   parts-pass = rw (parts_are, aux-moved) (check-moved new (address_limit f) (parts_of y) g.moves (aux_of file y) fe ft parts-good)
 
-  module-pass : module_check (W new x file f l g) z ≡ Accepted
+  module-pass : module_check (W new x file f l g) z ≡ Ok tt
   module-pass =
       module-again file (W new x file f l g) y z g.check refl refl (tallies-moved new y z.sections moved-sections g.still) (thread-moved new y z.sections moved-sections g.still) parts-pass
 
@@ -141,9 +140,9 @@ module _ (new : Followed → ℕ → ℕ) (x : Images) (file : List ℕ) (f : Fo
   image-kept = image-moved new (address_limit f) (parts_of y) g.moves (parts-image (parts_of y) (aux_of file y) parts-good).0 (ℕ_discrete (parts_of y).bss.size 0)
 
   -- a written file is the module with the new addresses
-  pub written-module : module_at (W new x file f l g) ≡ module-answer.Found (moved_module new l.layout)
+  pub written-module : module_at (W new x file f l g) ≡ Ok (moved_module new l.layout)
   written-module =
       module-at (W new x file f l g) z (written-opens new x file f l g) module-pass
-      ∙ ap module-answer.Found (ap (λ (p : Parts). module_with y.format p (aux_of (W new x file f l g) z)) parts_are ∙ ap (module_with y.format (moved_parts new (parts_of y))) aux-moved
+      ∙ ap Ok (ap (λ (p : Parts). module_with y.format p (aux_of (W new x file f l g) z)) parts_are ∙ ap (module_with y.format (moved_parts new (parts_of y))) aux-moved
       ∙ module-is new y.format (parts_of y) (aux_of file y) fe ft (ap (λ (m : Module). anchor_follows m.parts m.entry) (sym g.is)) (ap (λ (m : Module). anchor_follows m.parts m.toc) (sym g.is)) image-kept
       ∙ ap (moved_module new) g.is)

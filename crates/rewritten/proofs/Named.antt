@@ -12,22 +12,22 @@ use Rattle.refusal.proofs.Causes.{Causes, cause-if, cause-then}
 use Rattle.offset.specs.Named.{Named}
 use Rattle.offset.proofs.Named.{plain-named}
 use Rattle.header.specs.Open.{open_of}
-use Rattle.loadable.specs.declared.LoadableAnswer.{LoadableAnswer}
-use Rattle.loadable.specs.declared.LoadableAnswer.TheVariants.{Found, Refused}
 use Rattle.loadable.specs.Loadable.{loadable_at}
 use Rattle.history.specs.Plan.{Plan, plan_check}
 use Rattle.plan.specs.Relocatable.{relocatable_at}
 use Rattle.plan.proofs.Named.{plan-named}
 use Rattle.written.specs.Shared.{is_shared}
 use Rattle.written.specs.Write.{shared_check, output_room, rewrite_check}
+use Rattle.std.specs.Prelude.{Err, Ok, Result}
+use Rattle.loadable.specs.declared.Loadable.{Loadable}
 
 module _ (file : List ℕ) where
   abbrev P : Refusal → Type 0
   P = Named file
 
-  shared-named : (a : LoadableAnswer) → Causes P (shared_check file a)
-  shared-named (Found l) = cause-if P (is_shared file (open_of file).summary l) Shared (λ _. plain-named file Shared (λ s. refl) (λ _ e. e))
-  shared-named (Refused x) = tt
+  shared-named : (a : Result Loadable Refusal) → Causes P (shared_check file a)
+  shared-named (Ok l) = cause-if P (is_shared file (open_of file).summary l) Shared (λ _. plain-named file Shared (λ s. refl) (λ _ e. e))
+  shared-named (Err x) = tt
 
   room-named : (len n : ℕ) → Causes P (output_room len n)
   unfolding output_room

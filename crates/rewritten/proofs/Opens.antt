@@ -19,11 +19,9 @@ use Rattle.section_kind.specs.declared.SectionKind.{SectionKind}
 use Rattle.section_kind.specs.declared.SectionKind.TheVariants as kind
 use Rattle.section_kind.specs.Kind.{flags_of, is_placed_kind}
 use Rattle.format.specs.Layout.{magic_field, format_of, header_layout, section_layout, aux_layout, address_limit, symbol_length}
-use Rattle.refusal.specs.declared.Verdict.TheVariants.{Accepted}
 use Rattle.refusal.specs.Order.{refuse_if}
 use Rattle.section.specs.declared.SectionHeader.{SectionHeader}
 use Rattle.section.specs.declared.Section.{Section}
-use Rattle.section.specs.declared.SectionAnswer.TheVariants as section
 use Rattle.section.specs.Section.{section_header_at, judge_section}
 use Rattle.file_header.specs.declared.FileHeader.{FileHeader}
 use Rattle.file_header.specs.Header.{header_at, header_check, section_start}
@@ -54,6 +52,7 @@ use Rattle.rewritten.proofs.Parts.{Ones, Moves, with_sections}
 use Rattle.written.proofs.Found.{TablesWithin}
 use Rattle.rewritten.proofs.Stages.{Clear, LoaderClear}
 use Rattle.rewritten.proofs.Read.{w3, w6, length3, length6, header_read, section-read, section-before, strings-read}
+use Rattle.std.specs.Prelude.{Ok}
 
 -- all that the theorem rests on: the file opens, no two parts share a byte, and the new addresses fit
 pub record Ready (new : Followed → ℕ → ℕ) (x : Images) (file : List ℕ) (f : Format) (l : Loadable) : Type 0 where
@@ -72,7 +71,7 @@ pub record Ready (new : Followed → ℕ → ℕ) (x : Images) (file : List ℕ)
   pub dat : Fresh new (address_limit f) followed.Data
   pub still : Fresh new (address_limit f) followed.Nothing
   pub is : module_with (summary_as f file).format (parts_of (summary_as f file)) (aux_of file (summary_as f file)) ≡ l.layout
-  pub check : module_check file (summary_as f file) ≡ Accepted
+  pub check : module_check file (summary_as f file) ≡ Ok tt
   pub entry : Fresh new (address_limit f) (anchor_follows l.layout.parts l.layout.entry)
   pub toc : Fresh new (address_limit f) (anchor_follows l.layout.parts l.layout.toc)
 
@@ -104,7 +103,7 @@ unfolding judged_at header_at
 judged-is f file ys i = refl
 
 -- what the check of the strings tells of their length
-stated-test : (file : List ℕ) (h : FileHeader) → symbols_check file h ≡ Accepted → (h.nsyms ≡ 0 → ⊥) → (symbols_end h ≡ length file → ⊥) → (ltb 0 (field_at 4 (symbols_end h) file) && ltb (field_at 4 (symbols_end h) file) 4) ≡ false
+stated-test : (file : List ℕ) (h : FileHeader) → symbols_check file h ≡ Ok tt → (h.nsyms ≡ 0 → ⊥) → (symbols_end h ≡ length file → ⊥) → (ltb 0 (field_at 4 (symbols_end h) file) && ltb (field_at 4 (symbols_end h) file) 4) ≡ false
 unfolding symbols_check strings_check
 stated-test file h e z n =
     let v = field_at 4 (symbols_end h) file in
@@ -246,7 +245,7 @@ module _ (new : Followed → ℕ → ℕ) (x : Images) (file : List ℕ) (f : Fo
     fits kind.Typchk e p = no_true p
     fits kind.Ovrflo e p = no_true p
 
-    pub judged-moved : judged_at W h i ≡ section.Found (moved_section new s)
+    pub judged-moved : judged_at W h i ≡ Ok (moved_section new s)
     judged-moved =
         judged-is f file W i
         ∙ ap (λ (n : ℕ). judge_section f n (section_header_at f base W) (record { 0 = i + 1 })) length-written
@@ -290,7 +289,7 @@ module _ (new : Followed → ℕ → ℕ) (x : Images) (file : List ℕ) (f : Fo
         symbols = ap (symbols_check W) header-kept ∙ symbols-same h W file length-written strings-kept ∙ r.symbols;
       }
     where
-      all : sections_check W h ≡ Accepted
+      all : sections_check W h ≡ Ok tt
       all = unfold sections_check in accept-all (λ i. verdict_of (judged_at W h i)) 0 h.nscns (λ i b. ap verdict_of (judged-moved i (omega arith)))
 
   summary-written : summary_as f W ≡ with_sections y (sections_of W h h.nscns)
@@ -298,5 +297,5 @@ module _ (new : Followed → ℕ → ℕ) (x : Images) (file : List ℕ) (f : Fo
   summary-written = rw (header-kept, table_same h W file length-written strings-kept) refl
 
   -- it opens to the first file's summary with the new addresses in its sections
-  pub written-opens : open_of W ≡ record { verdict = Accepted; summary = with_sections y (sections_of W h h.nscns) }
-  written-opens = reads-opened f W written-reads ∙ ap (λ (t : Summary). record { verdict = Accepted; summary = t }) summary-written
+  pub written-opens : open_of W ≡ record { verdict = Ok tt; summary = with_sections y (sections_of W h h.nscns) }
+  written-opens = reads-opened f W written-reads ∙ ap (λ (t : Summary). record { verdict = Ok tt; summary = t }) summary-written

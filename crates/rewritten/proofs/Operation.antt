@@ -3,14 +3,12 @@ use mathlib.Core.Path.{◌≡◌, refl, sym, ◌∙◌, ap}
 use mathlib.Core.List.{List}
 use Prim.Native.Nat.{ℕ}
 use lib.ListN.{length, get_or}
+use Rattle.refusal.specs.Verdict.{Verdict}
 use Rattle.refusal.specs.declared.Refusal.TheVariants as refusal
-use Rattle.refusal.specs.declared.Verdict.TheVariants.{Accepted, Refused}
 use Rattle.refusal.specs.Order.{◌or_else◌, refuse_if}
 use Rattle.refusal.proofs.Order.{accepted-first, accepted-rest, accepted-test, not-accepted}
 use Rattle.header.specs.Open.{open_of}
 use Rattle.loadable.specs.declared.Loadable.{Loadable}
-use Rattle.loadable.specs.declared.LoadableAnswer.{LoadableAnswer}
-use Rattle.loadable.specs.declared.LoadableAnswer.TheVariants as answer
 use Rattle.loadable.specs.Loadable.{loadable_at}
 use Rattle.update.specs.Update.{Bytes}
 use Rattle.history.specs.Images.{Images}
@@ -26,12 +24,14 @@ use Rattle.written.specs.Changed.{Changed}
 use Rattle.rewritten.proofs.Reports.{reports-alike}
 use Rattle.rewritten.proofs.Theorem.{Writable, written-opens-again, written-runs, written-answers, written-recorded, written-length, written_byte, written-again, relocatable-is}
 use Rattle.rewritten.proofs.Own.{written-own}
+use Rattle.std.specs.Prelude.{Err, Ok, Result}
+use Rattle.refusal.specs.declared.Refusal.{Refusal}
 
-first-accepted : (m : Relocatable) (p : Plan) → plan_check m p ≡ Accepted → m.verdict ≡ Accepted
+first-accepted : (m : Relocatable) (p : Plan) → plan_check m p ≡ Ok tt → m.verdict ≡ Ok tt
 unfolding plan_check
 first-accepted m p e = accepted-first m.verdict _ e
 
-as-found : (file : List ℕ) (p : Plan) {l : Loadable} → loadable_at file ≡ answer.Found l → written_at file p ≡ written file l p
+as-found : (file : List ℕ) (p : Plan) {l : Loadable} → loadable_at file ≡ Ok l → written_at file p ≡ written file l p
 unfolding written_at
 as-found file p q = rw q refl
 
@@ -42,36 +42,36 @@ pub record Rewritten (file : List ℕ) (p : Plan) : Type 0 where
   pub is : written_at file p ≡ written file layout p
 
 module _ (file : List ℕ) (p : Plan) (n : ℕ) where
-  by_answer : (a : LoadableAnswer) → loadable_at file ≡ a → (plan_check (relocatable_by file a) p or_else shared_check file a or_else output_room (length file) n) ≡ Accepted → Rewritten file p
-  by_answer (answer.Found l) q e =
-      let rest = accepted-rest (plan_check (relocatable_by file (answer.Found l)) p) _ e in
+  by_answer : (a : Result Loadable Refusal) → loadable_at file ≡ a → (plan_check (relocatable_by file a) p or_else shared_check file a or_else output_room (length file) n) ≡ Ok tt → Rewritten file p
+  by_answer (Ok l) q e =
+      let rest = accepted-rest (plan_check (relocatable_by file (Ok l)) p) _ e in
       record {
         layout = l;
         writable = record {
           loads = q;
-          plan = unfold relocatable_at in rw q (accepted-first (plan_check (relocatable_by file (answer.Found l)) p) _ e);
+          plan = unfold relocatable_at in rw q (accepted-first (plan_check (relocatable_by file (Ok l)) p) _ e);
           apart = accepted-test (is_shared file (open_of file).summary l) refusal.Shared (accepted-first (refuse_if (is_shared file (open_of file).summary l) refusal.Shared) _ rest);
         };
         is = unfold written_at in rw q refl;
       }
-  by_answer (answer.Refused x) q e = not-accepted (refused (accepted-first (plan_check (relocatable_by file (answer.Refused x)) p) _ e))
+  by_answer (Err x) q e = not-accepted (refused (accepted-first (plan_check (relocatable_by file (Err x)) p) _ e))
     where
-      refused : plan_check (relocatable_by file (answer.Refused x)) p ≡ Accepted → Refused x ≡ Accepted
+      refused : plan_check (relocatable_by file (Err x)) p ≡ Ok tt → ◌≡◌ {A = Verdict} (Err x) (Ok tt)
       refused k = unfold plan_check relocatable_by no_module in k
 
-  pub rewritten : rewrite_check file p n ≡ Accepted → Rewritten file p
+  pub rewritten : rewrite_check file p n ≡ Ok tt → Rewritten file p
   unfolding rewrite_check relocatable_at
   rewritten e = by_answer (loadable_at file) refl e
 
-module _ (file : List ℕ) (p : Plan) (n : ℕ) (e : rewrite_check file p n ≡ Accepted) where
+module _ (file : List ℕ) (p : Plan) (n : ℕ) (e : rewrite_check file p n ≡ Ok tt) where
   abbrev r : Rewritten file p
   r = rewritten file p n e
 
   -- the written file is an accepted module
-  pub rewritten-accepted : (relocatable_at (written_at file p)).verdict ≡ Accepted
+  pub rewritten-accepted : (relocatable_at (written_at file p)).verdict ≡ Ok tt
   rewritten-accepted = rw r.is (opened (written-opens-again file r.layout p r.writable))
     where
-      opened : {l : Loadable} → loadable_at (written file r.layout p) ≡ answer.Found l → (relocatable_at (written file r.layout p)).verdict ≡ Accepted
+      opened : {l : Loadable} → loadable_at (written file r.layout p) ≡ Ok l → (relocatable_at (written file r.layout p)).verdict ≡ Ok tt
       opened q = unfold relocatable_at relocatable_by relocatable_of in rw q refl
 
   -- "Opened again, its recorded addresses are the plan's, ignored list places aside"
@@ -109,7 +109,7 @@ module _ (file : List ℕ) (p : Plan) (n : ℕ) (e : rewrite_check file p n ≡ 
 pub rewritten-own : (file : List ℕ) → Bytes file → written_at file (recorded_plan (relocatable_at file)) ≡ file
 rewritten-own file b = by-answer' (loadable_at file) refl
   where
-    by-answer' : (a : LoadableAnswer) → loadable_at file ≡ a → written_at file (recorded_plan (relocatable_at file)) ≡ file
-    by-answer' (answer.Found l) q =
+    by-answer' : (a : Result Loadable Refusal) → loadable_at file ≡ a → written_at file (recorded_plan (relocatable_at file)) ≡ file
+    by-answer' (Ok l) q =
         ap (λ (m : Relocatable). written_at file (recorded_plan m)) (relocatable-is file l q) ∙ as-found file (recorded_plan (relocatable_of file l)) q ∙ written-own file l q b
-    by-answer' (answer.Refused x) q = unfold written_at in rw q refl
+    by-answer' (Err x) q = unfold written_at in rw q refl

@@ -31,7 +31,6 @@ use Rattle.loader_symbol.specs.Symbol as symbol
 use Rattle.relocation.specs.declared.RelocationEntry.{RelocationEntry}
 use Rattle.relocation.specs.Relocation as relocation
 use Rattle.loadable.specs.declared.Loadable.{Loadable}
-use Rattle.loadable.specs.declared.LoadableAnswer.TheVariants as answer
 use Rattle.loadable.specs.Loadable.{loadable_at}
 use Rattle.loadable.specs.Valid.{Valid}
 use Rattle.loadable.proofs.Accepted.{loadable-valid}
@@ -51,6 +50,7 @@ use Rattle.written.specs.Written.{flag_follows, anchor_by, anchor_follows, entry
 use Rattle.written.proofs.Found.{found-opened, found-format, found-aux}
 use Rattle.written.proofs.Built.{part_length}
 use Rattle.rewritten.proofs.Theorem.{own-places, relocatable-is}
+use Rattle.std.specs.Prelude.{Ok}
 
 -- ---- nothing changes
 
@@ -138,7 +138,7 @@ module _ (file : List ℕ) (b : Bytes file) where
 
 -- ---- the theorem
 
-module _ (file : List ℕ) (l : Loadable) (e : loadable_at file ≡ answer.Found l) (b : Bytes file) where
+module _ (file : List ℕ) (l : Loadable) (e : loadable_at file ≡ Ok l) (b : Bytes file) where
   abbrev M : Relocatable
   M = relocatable_of file l
 

@@ -9,7 +9,6 @@ use lib.ListN.{get_or}
 use lib.Dec.{eqb}
 use borrow.Author.Tests.{eq-eqb, ne_eqb, eqb-true, le-ltb, not-false}
 use Rattle.word.proofs.Test.{and_first, and_second}
-use Rattle.refusal.specs.declared.Verdict.TheVariants.{Accepted}
 use Rattle.refusal.specs.Order.{refuse_if}
 use Rattle.refusal.proofs.Order.{accepted-first, accepted-test}
 use Rattle.section.specs.declared.Section.{Section}
@@ -30,6 +29,7 @@ use Rattle.written.specs.Written.{flag_follows}
 use Rattle.written.specs.Moved.{moved_section, moved_part, moved_parts, moved_aux}
 use Rattle.frame.proofs.Open.{first-same}
 use Rattle.rewritten.proofs.Judge.{tally-same, tally-here}
+use Rattle.std.specs.Prelude.{Ok}
 
 -- there is one of each kind
 pub record Ones (y : Summary) : Type 0 where
@@ -120,7 +120,7 @@ module _ (new : Followed → ℕ → ℕ) (limit : ℕ) (p : Parts) (v : Moves n
   image-moved e (yes z) = rw (eq-eqb p.bss.size 0 z) refl
   image-moved e (no n) = rw (ne_eqb p.bss.size 0 n, bss-moved e n) (omega arith)
 
-  module _ (a : AuxHeader) (fe ft : Followed) (e : parts_check p a ≡ Accepted) where
+  module _ (a : AuxHeader) (fe ft : Followed) (e : parts_check p a ≡ Ok tt) where
     agree : (numbers_agree p a && sizes_agree p a) ≡ true
     agree = unfold parts_check in
         not-false (numbers_agree p a && sizes_agree p a) (accepted-test (not (numbers_agree p a && sizes_agree p a)) _ (accepted-first (refuse_if (not (numbers_agree p a && sizes_agree p a)) _) _ e))
@@ -158,7 +158,7 @@ module _ (new : Followed → ℕ → ℕ) (limit : ℕ) (p : Parts) (v : Moves n
     anchor-moved n = refl
 
     -- the checks of a module's parts pass
-    pub check-moved : parts_check (moved_parts new p) (moved_aux new fe ft a) ≡ Accepted
+    pub check-moved : parts_check (moved_parts new p) (moved_aux new fe ft a) ≡ Ok tt
     unfolding parts_check
     check-moved =
         let image = parts-image p a e in

@@ -11,30 +11,28 @@ use Rattle.refusal.specs.declared.RoomItem.{RoomItem}
 use Rattle.refusal.specs.declared.RoomItem.TheVariants.{TextBuffer, DataBuffer, AddressList}
 use Rattle.refusal.specs.declared.Refusal.{Refusal}
 use Rattle.refusal.specs.declared.Refusal.TheVariants as refusal
-use Rattle.refusal.specs.declared.Verdict.{Verdict}
-use Rattle.refusal.specs.declared.Verdict.TheVariants.{Accepted, Refused}
 use Rattle.refusal.specs.Order.{◌or_else◌, refuse_if, by_verdict, first_of}
-use Rattle.offset.specs.declared.StartsAnswer.{StartsAnswer}
-use Rattle.offset.specs.declared.StartsAnswer.TheVariants.{Known, Unknown}
 use Rattle.offset.specs.Offset.{starts_of, offset_by, offset_of}
 use Rattle.history.specs.declared.Followed.{Followed}
 use Rattle.history.specs.declared.Followed.TheVariants as followed
-use Rattle.history.specs.declared.CallAnswer.TheVariants as answer
 use Rattle.history.specs.Plan.{Relocatable, Plan, limit_of, reached_by, list_room, list_check, fits, address_check, import_check, fit_check, plan_check}
 use Rattle.history.specs.Call.{Call, build, move, plan_reached, buffer_room, room_check, call_check, answer_of}
 use Rattle.image.specs.Report.{report_of_call}
+use Rattle.std.specs.Prelude.{Err, None, Ok, Option, Some}
+use Rattle.offset.specs.declared.Starts.{Starts}
+use Rattle.refusal.specs.Verdict.{Verdict}
 
 -- the cause has one offset, whatever the file
 abbrev Placeless : Refusal → Type 0
 Placeless x = (a b : List ℕ) → offset_of a x ≡ offset_of b x
 
-plan-at : (file : List ℕ) (s : StartsAnswer) (i : PlanItem) → offset_by file s (refusal.Plan i) ≡ 0
-plan-at file Unknown i = refl
-plan-at file (Known s) i = refl
+plan-at : (file : List ℕ) (s : Option Starts) (i : PlanItem) → offset_by file s (refusal.Plan i) ≡ 0
+plan-at file None i = refl
+plan-at file (Some s) i = refl
 
-room_at : (file : List ℕ) (s : StartsAnswer) (i : RoomItem) → offset_by file s (refusal.Room i) ≡ 0
-room_at file Unknown i = refl
-room_at file (Known s) i = refl
+room_at : (file : List ℕ) (s : Option Starts) (i : RoomItem) → offset_by file s (refusal.Room i) ≡ 0
+room_at file None i = refl
+room_at file (Some s) i = refl
 
 plan-placeless : (i : PlanItem) → Placeless (refusal.Plan i)
 plan-placeless i a b = plan-at a (starts_of a) i ∙ sym (plan-at b (starts_of b) i)
@@ -44,12 +42,12 @@ room-placeless i a b = room_at a (starts_of a) i ∙ sym (room_at b (starts_of b
 
 -- so have all that a verdict gives
 abbrev Free : Verdict → Type 0
-Free Accepted = Unit {0}
-Free (Refused x) = Placeless x
+Free (Ok tt) = Unit {0}
+Free (Err x) = Placeless x
 
 free_or : (v w : Verdict) → Free v → Free w → Free (v or_else w)
-free_or Accepted w a b = b
-free_or (Refused x) w a b = a
+free_or (Ok tt) w a b = b
+free_or (Err x) w a b = a
 
 free-test : (t : Bool) (x : Refusal) → Placeless x → Free (refuse_if t x)
 free-test true x h = h
@@ -60,7 +58,7 @@ unfolding first_of
 free-first check h i zero = tt
 free-first check h i (suc n) = free_or (check i) (first_of check (suc i) n) (h i) (free-first check h (suc i) n)
 
-module _ (m : Relocatable) (e : m.verdict ≡ Accepted) where
+module _ (m : Relocatable) (e : m.verdict ≡ Ok tt) where
   free-module : Free m.verdict
   free-module = rw e tt
 
@@ -113,6 +111,6 @@ module _ (m : Relocatable) (e : m.verdict ≡ Accepted) where
   unfolding answer_of
   reports-alike a b tl dl c = by-verdict (call_check m tl dl c) (free-call tl dl c)
     where
-      by-verdict : (v : Verdict) → Free v → report_of_call a (by_verdict v (answer.Done (reached_by m (plan_reached c))) answer.Refused) ≡ report_of_call b (by_verdict v (answer.Done (reached_by m (plan_reached c))) answer.Refused)
-      by-verdict Accepted f = refl
-      by-verdict (Refused x) f = rw (f a b) refl
+      by-verdict : (v : Verdict) → Free v → report_of_call a (by_verdict v (Ok (reached_by m (plan_reached c))) Err) ≡ report_of_call b (by_verdict v (Ok (reached_by m (plan_reached c))) Err)
+      by-verdict (Ok tt) f = refl
+      by-verdict (Err x) f = rw (f a b) refl

@@ -11,7 +11,6 @@ use lib.Dec.{ltb}
 use borrow.Author.Tests.{ltb-false, not-false}
 use Rattle.format.specs.declared.Format.{Format}
 use Rattle.format.specs.Layout.{aux_layout, address_limit}
-use Rattle.refusal.specs.declared.Verdict.TheVariants.{Accepted}
 use Rattle.refusal.specs.Order.{refuse_if}
 use Rattle.refusal.proofs.Order.{accepted-first, accepted-rest, accepted-test}
 use Rattle.header.specs.declared.Summary.{Summary}
@@ -24,7 +23,6 @@ use Rattle.module.specs.declared.Module.{Module}
 use Rattle.module.specs.Module.{bss_below, image_length, aux_of, module_check, module_with}
 use Rattle.module.proofs.Extent.{parts-image}
 use Rattle.loadable.specs.declared.Loadable.{Loadable}
-use Rattle.loadable.specs.declared.LoadableAnswer.TheVariants as answer
 use Rattle.loadable.specs.Loadable.{loadable_at}
 use Rattle.loadable.specs.Valid.{Valid}
 use Rattle.loadable.proofs.Accepted.{loadable-valid}
@@ -62,16 +60,17 @@ use Rattle.rewritten.proofs.Loaded.{written-loadable}
 use Rattle.written.proofs.Built.{length-built, length-built-text}
 use Rattle.rewritten.proofs.Rebases.{relocatable-kept}
 use Rattle.rewritten.proofs.Again.{again}
+use Rattle.std.specs.Prelude.{Ok}
 
 -- ---- what the checks of a module tell
 
-module-one : (file : List ℕ) (y : Summary) → module_check file y ≡ Accepted → one_each (tallies_of y) ≡ true
+module-one : (file : List ℕ) (y : Summary) → module_check file y ≡ Ok tt → one_each (tallies_of y) ≡ true
 unfolding module_check
 module-one file y e =
     let r = accepted-rest (refuse_if (ltb y.opthdr (aux_layout y.format).length) _) _ e in
     not-false (one_each (tallies_of y)) (accepted-test (not (one_each (tallies_of y))) _ (accepted-first (refuse_if (not (one_each (tallies_of y))) _) _ r))
 
-module-long : (file : List ℕ) (y : Summary) → module_check file y ≡ Accepted → (aux_layout y.format).length ≤ y.opthdr
+module-long : (file : List ℕ) (y : Summary) → module_check file y ≡ Ok tt → (aux_layout y.format).length ≤ y.opthdr
 unfolding module_check
 module-long file y e =
     ltb-false y.opthdr (aux_layout y.format).length (accepted-test (ltb y.opthdr (aux_layout y.format).length) _ (accepted-first (refuse_if (ltb y.opthdr (aux_layout y.format).length) _) _ e))
@@ -94,7 +93,7 @@ data-long file l v p = length-take-le l.layout.parts.«data».size (built_images
 -- ---- all that the theorem rests on
 
 module _ (file : List ℕ) (l : Loadable) (p : Plan) (f : Format) (r : Reads f file) (lf : LoadableFound file l) (v : Valid file l)
-    (check : module_check file (summary_as f file) ≡ Accepted) (is : module_with (summary_as f file).format (parts_of (summary_as f file)) (aux_of file (summary_as f file)) ≡ l.layout)
+    (check : module_check file (summary_as f file) ≡ Ok tt) (is : module_with (summary_as f file).format (parts_of (summary_as f file)) (aux_of file (summary_as f file)) ≡ l.layout)
     (fit : PlanFits (relocatable_of file l) p) (apart : is_shared file (summary_as f file) l ≡ false) where
   abbrev y : Summary
   y = summary_as f file
@@ -132,13 +131,13 @@ module _ (file : List ℕ) (l : Loadable) (p : Plan) (f : Format) (r : Reads f f
       by-anchor (in_text x) = fresh-text
       by-anchor (in_data x) = fresh-data
 
-  symbols-checked : (k : ℕ) → k < l.tables.nsyms → address_check (limit_of M) p.list (k + 3) (followed_at file l k) ≡ Accepted
+  symbols-checked : (k : ℕ) → k < l.tables.nsyms → address_check (limit_of M) p.list (k + 3) (followed_at file l k) ≡ Ok tt
   symbols-checked k b = at_symbol (fit.imports k (rw count b))
     where
       count : length M.symbols ≡ l.tables.nsyms
       count = unfold relocatable_of in length_symbols file l 0 l.tables.nsyms
 
-      at_symbol : import_check M p.list k ≡ Accepted → address_check (limit_of M) p.list (k + 3) (followed_at file l k) ≡ Accepted
+      at_symbol : import_check M p.list k ≡ Ok tt → address_check (limit_of M) p.list (k + 3) (followed_at file l k) ≡ Ok tt
       at_symbol e = unfold import_check relocatable_of in (rw (symbol-at file l l.tables.nsyms k b) at e)
 
   pub fresh-symbols : (k : ℕ) → k < l.tables.nsyms → Fresh (new_address M p) (address_limit f) (followed_at file l k)
@@ -186,11 +185,11 @@ module _ (file : List ℕ) (l : Loadable) (p : Plan) (f : Format) (r : Reads f f
 
 -- the call is accepted up to ROOM 0: the module's refusals, the plan's checks, SHARED
 pub record Writable (file : List ℕ) (l : Loadable) (p : Plan) : Type 0 where
-  pub loads : loadable_at file ≡ answer.Found l
-  pub plan : plan_check (relocatable_at file) p ≡ Accepted
+  pub loads : loadable_at file ≡ Ok l
+  pub plan : plan_check (relocatable_at file) p ≡ Ok tt
   pub apart : is_shared file (open_of file).summary l ≡ false
 
-pub relocatable-is : (file : List ℕ) (l : Loadable) → loadable_at file ≡ answer.Found l → relocatable_at file ≡ relocatable_of file l
+pub relocatable-is : (file : List ℕ) (l : Loadable) → loadable_at file ≡ Ok l → relocatable_at file ≡ relocatable_of file l
 unfolding relocatable_at relocatable_by
 relocatable-is file l e = rw e refl
 
@@ -214,7 +213,7 @@ module _ (file : List ℕ) (l : Loadable) (p : Plan) (c : Writable file l p) whe
   N = new_address (relocatable_of file l) p
 
   abbrev Both : List ℕ → Type 0
-  Both ws = (loadable_at ws ≡ answer.Found (record { layout = moved_module N l.layout; tables = l.tables })) × (relocatable_at ws ≡ rebased (relocatable_of file l) p)
+  Both ws = (loadable_at ws ≡ Ok (record { layout = moved_module N l.layout; tables = l.tables })) × (relocatable_at ws ≡ rebased (relocatable_of file l) p)
 
   fitting : PlanFits (relocatable_of file l) p
   fitting = plan-fits (relocatable_of file l) p (rw (relocatable-is file l c.loads) at c.plan)
@@ -244,7 +243,7 @@ module _ (file : List ℕ) (l : Loadable) (p : Plan) (c : Writable file l p) whe
       both o.0 o.1
 
   -- "Opened again": the module with the new addresses, and the same tables
-  pub written-opens-again : loadable_at (written file l p) ≡ answer.Found (record { layout = moved_module (new_address (relocatable_of file l) p) l.layout; tables = l.tables })
+  pub written-opens-again : loadable_at (written file l p) ≡ Ok (record { layout = moved_module (new_address (relocatable_of file l) p) l.layout; tables = l.tables })
   written-opens-again = answered.0
 
   -- to builds and moves it is the first file with the plan's addresses

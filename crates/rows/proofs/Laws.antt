@@ -8,29 +8,17 @@ use native.Mathlib.Numerals.{add-one}
 use native.Mathlib.Omega.{arith}
 use borrow.Author.Tests.{eqb-true, not-false}
 use lib.Dec.{eqb}
-use lib.ListN.{length, get_or, drop, set, length-append, drop_of_length-le}
-use lib.Seq.{sets, length-sets, drop-cons}
-use Rattle.refusal.specs.declared.Verdict.TheVariants.{Accepted}
+use lib.ListN.{length, length-append}
+use lib.Seq.{sets, length-sets}
 use Rattle.refusal.proofs.Order.{accepted-test}
 use Rattle.update.proofs.Stores.{sets-append, sets-whole}
 use Rattle.rows.specs.Rows.{rows_of, room_check}
+use Rattle.std.specs.Prelude.{Ok}
 
 -- memory that is accepted has exactly the room
-pub room-exact : (given needed : ℕ) → room_check given needed ≡ Accepted → given ≡ needed
+pub room-exact : (given needed : ℕ) → room_check given needed ≡ Ok tt → given ≡ needed
 unfolding room_check
 room-exact given needed e = eqb-true given needed (not-false (eqb given needed) (accepted-test (not (eqb given needed)) _ e))
-
--- ---- one row
-
--- one number more
-pub write-next : (l row : List ℕ) (at i : ℕ) → i < length row → sets (set l (at + i) (get_or row i 0)) (at + (i + 1)) (drop (i + 1) row) ≡ sets l (at + i) (drop i row)
-write-next l row at i h =
-    let place : at + (i + 1) ≡ suc (at + i) = omega arith in
-    rw (place, add-one i, drop-cons row i 0 h) refl
-
--- none is left
-pub write-end : (l row : List ℕ) (at i : ℕ) → length row ≤ i → sets l at (drop i row) ≡ l
-write-end l row at i h = rw (drop_of_length-le row h) refl
 
 -- ---- many rows
 

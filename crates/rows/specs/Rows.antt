@@ -2,8 +2,8 @@
 use Rattle.std.specs.Prelude.{ℕ, zero, suc, not, List, [], ◌++◌, eqb}
 use Rattle.refusal.specs.declared.Refusal.TheVariants.{Room}
 use Rattle.refusal.specs.declared.RoomItem.TheVariants.{RowBuffer}
-use Rattle.refusal.specs.declared.Verdict.{Verdict}
 use Rattle.refusal.specs.Order.{refuse_if}
+use Rattle.refusal.specs.Verdict.{Verdict}
 
 -- the rows of the elements i, i + 1, .., n of them, one behind the other
 unfoldable pub rows_of : (ℕ → List ℕ) → ℕ → ℕ → List ℕ

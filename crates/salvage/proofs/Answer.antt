@@ -12,8 +12,6 @@ use Rattle.refusal.specs.declared.Refusal.{Refusal}
 use Rattle.refusal.specs.declared.Refusal.TheVariants.{Limit, Room, Shared}
 use Rattle.refusal.specs.declared.LimitItem.TheVariants.{SalvageReport}
 use Rattle.refusal.specs.declared.RoomItem.TheVariants.{FileBuffer}
-use Rattle.refusal.specs.declared.Verdict.{Verdict}
-use Rattle.refusal.specs.declared.Verdict.TheVariants as verdict
 use Rattle.refusal.specs.Order.{◌or_else◌, refuse_if, by_verdict, if_accepted}
 use Rattle.refusal.proofs.Order.{accepted-first, accepted-rest, accepted-equal, accepted-most}
 use Rattle.header.specs.declared.Opened.{Opened}
@@ -26,29 +24,29 @@ use Rattle.shared_symbols.proofs.Sections.{few-symbols}
 use Rattle.mend.specs.Mend.{put_all}
 use Rattle.mend.specs.Report.{report_bytes, put_bytes}
 use Rattle.mend.proofs.Changes.{length-report}
-use Rattle.salvage.specs.declared.CountAnswer.{CountAnswer}
-use Rattle.salvage.specs.declared.CountAnswer.TheVariants.{Counted, Refused}
 use Rattle.salvage.specs.Salvage.{changes_in, salvaged}
 use Rattle.salvage.specs.Answer.{salvageable, room_check, room_in, salvage_check, count_answer, salvage_answer, copy_after, report_after, report_of_count}
+use Rattle.std.specs.Prelude.{Err, Ok, Result}
+use Rattle.refusal.specs.Verdict.{Verdict}
 
 -- ---- ROOM 0 and LIMIT item 5
 
 module _ (len count copy report : ℕ) where
-  pub copy-refused : (copy ≡ len → ⊥) → verdict.Refused (Room FileBuffer) ≡ room_check len count copy report
+  pub copy-refused : (copy ≡ len → ⊥) → Err (Room FileBuffer) ≡ room_check len count copy report
   unfolding room_check
   copy-refused h = rw (ne_eqb copy len h) refl
 
-  pub report-refused : copy ≡ len → report < 8 * count → verdict.Refused (Limit SalvageReport) ≡ room_check len count copy report
+  pub report-refused : copy ≡ len → report < 8 * count → Err (Limit SalvageReport) ≡ room_check len count copy report
   unfolding room_check
   report-refused e h = rw (eq-eqb copy len e, lt-ltb report (8 * count) h) refl
 
-  pub room-accepted : copy ≡ len → 8 * count ≤ report → verdict.Accepted ≡ room_check len count copy report
+  pub room-accepted : copy ≡ len → 8 * count ≤ report → (Ok tt) ≡ room_check len count copy report
   unfolding room_check
   room-accepted e h = rw (eq-eqb copy len e, le-ltb report (8 * count) h) refl
 
   -- what is known where both are accepted
-  module _ (k : room_check len count copy report ≡ verdict.Accepted) where
-    both : (refuse_if (not (eqb copy len)) (Room FileBuffer) or_else refuse_if (ltb report (8 * count)) (Limit SalvageReport)) ≡ verdict.Accepted
+  module _ (k : room_check len count copy report ≡ Ok tt) where
+    both : (refuse_if (not (eqb copy len)) (Room FileBuffer) or_else refuse_if (ltb report (8 * count)) (Limit SalvageReport)) ≡ Ok tt
     both = unfold room_check in k
 
     pub copy-fits : copy ≡ len
@@ -67,23 +65,23 @@ module _ (file : List ℕ) (t : Tables) (copy report : List ℕ) where
   pub room-told : {n : ℕ} {v : Verdict} → n ≡ length (changes_in file t) → v ≡ room_check (length file) n (length copy) (length report) → v ≡ room
   room-told e h = rw e at h
 
-  pub copy-room : {n : ℕ} {v : Verdict} → n ≡ length (changes_in file t) → v ≡ room_check (length file) n (length copy) (length report) → v ≡ verdict.Accepted → length copy ≡ length file
+  pub copy-room : {n : ℕ} {v : Verdict} → n ≡ length (changes_in file t) → v ≡ room_check (length file) n (length copy) (length report) → v ≡ Ok tt → length copy ≡ length file
   copy-room e h k = copy-fits (length file) (length (changes_in file t)) (length copy) (length report) (sym (room-told e h) ∙ k)
 
-  pub rows_fit : {n : ℕ} {v : Verdict} → n ≡ length (changes_in file t) → v ≡ room_check (length file) n (length copy) (length report) → v ≡ verdict.Accepted → length (report_bytes (changes_in file t)) ≤ length report
+  pub rows_fit : {n : ℕ} {v : Verdict} → n ≡ length (changes_in file t) → v ≡ room_check (length file) n (length copy) (length report) → v ≡ Ok tt → length (report_bytes (changes_in file t)) ≤ length report
   rows_fit e h k =
       let l = length-report (changes_in file t) in
       let f = report-fits (length file) (length (changes_in file t)) (length copy) (length report) (sym (room-told e h) ∙ k) in
       omega arith
 
-  pub tables-refused : {x : Refusal} → room ≡ verdict.Refused x
-      → (Refused x ≡ by_verdict room (Counted (length (changes_in file t))) Refused)
+  pub tables-refused : {x : Refusal} → room ≡ Err x
+      → (Err x ≡ by_verdict room (Ok (length (changes_in file t))) Err)
       × ((copy ≡ if_accepted room (put_all t (changes_in file t) file) copy) × (report ≡ if_accepted room (put_bytes 0 (report_bytes (changes_in file t)) report) report))
   tables-refused k = (rw k refl, (rw k refl, rw k refl))
 
-  pub tables-salvaged : {n : ℕ} {one two rows : List ℕ} → room ≡ verdict.Accepted → n ≡ length (changes_in file t)
+  pub tables-salvaged : {n : ℕ} {one two rows : List ℕ} → room ≡ Ok tt → n ≡ length (changes_in file t)
       → one ≡ file → two ≡ put_all t (changes_in file t) one → rows ≡ put_bytes 0 (report_bytes (changes_in file t)) report
-      → (Counted n ≡ by_verdict room (Counted (length (changes_in file t))) Refused)
+      → (Ok n ≡ by_verdict room (Ok (length (changes_in file t))) Err)
       × ((two ≡ if_accepted room (put_all t (changes_in file t) file) copy) × (rows ≡ if_accepted room (put_bytes 0 (report_bytes (changes_in file t)) report) report))
   tables-salvaged k e a b r = (rw (k, e) refl, (rw (k, b, a) refl, rw (k, r) refl))
 
@@ -94,47 +92,47 @@ few-changes file t n o h = let i = tables-inside file t o in omega (arith, i.sma
 -- ---- of the file
 
 module _ (file : List ℕ) {o : Opened} (e : o ≡ open_of file) where
-  pub open-refused : {x : Refusal} → o.verdict ≡ verdict.Refused x → salvageable file ≡ verdict.Refused x
+  pub open-refused : {x : Refusal} → o.verdict ≡ Err x → salvageable file ≡ Err x
   unfolding salvageable
   open-refused k = rw (rw e at k) refl
 
-  module _ (k : o.verdict ≡ verdict.Accepted) where
+  module _ (k : o.verdict ≡ Ok tt) where
     pub shared-asked : (o.summary.count ≤ section_limit) × (o.summary.opthdr ≤ file_limit) × (o.summary.symbols.count ≤ file_limit)
     shared-asked = few-symbols file o.summary (summary-inside file (rw e at k) (ap (λ (x : Opened). x.summary) e))
 
-    pub shared-refused : {b : Bool} → b ≡ is_shared o.summary → b ≡ true → salvageable file ≡ verdict.Refused Shared
+    pub shared-refused : {b : Bool} → b ≡ is_shared o.summary → b ≡ true → salvageable file ≡ Err Shared
     unfolding salvageable
     shared-refused h q = rw (rw e at k, sym (rw e at h) ∙ q) refl
 
-    pub none-shared : {b : Bool} → b ≡ is_shared o.summary → b ≡ false → salvageable file ≡ verdict.Accepted
+    pub none-shared : {b : Bool} → b ≡ is_shared o.summary → b ≡ false → salvageable file ≡ Ok tt
     unfolding salvageable
     none-shared h q = rw (rw e at k, sym (rw e at h) ∙ q) refl
 
 module _ (file : List ℕ) where
-  pub count-told : {a : CountAnswer} → a ≡ count_answer file → (a ≡ count_answer file) × (report_of_count file a ≡ report_of_count file (count_answer file))
+  pub count-told : {a : Result ℕ Refusal} → a ≡ count_answer file → (a ≡ count_answer file) × (report_of_count file a ≡ report_of_count file (count_answer file))
   count-told e = (e, ap (report_of_count file) e)
 
-  pub count-refused : {x : Refusal} → salvageable file ≡ verdict.Refused x → Refused x ≡ count_answer file
+  pub count-refused : {x : Refusal} → salvageable file ≡ Err x → Err x ≡ count_answer file
   unfolding count_answer
   count-refused k = rw k refl
 
-  pub counted : {t : Tables} {n : ℕ} → OpenTables file t → salvageable file ≡ verdict.Accepted → n ≡ length (changes_in file t) → Counted n ≡ count_answer file
+  pub counted : {t : Tables} {n : ℕ} → OpenTables file t → salvageable file ≡ Ok tt → n ≡ length (changes_in file t) → Ok n ≡ count_answer file
   unfolding count_answer
   counted o k e = rw (k, e, o.tables) refl
 
   module _ (copy report : List ℕ) where
-    abbrev Salvages : CountAnswer → List ℕ → List ℕ → Type 0
+    abbrev Salvages : Result ℕ Refusal → List ℕ → List ℕ → Type 0
     Salvages a c r =
         (a ≡ salvage_answer file (length copy) (length report))
         × ((report_of_count file a ≡ report_of_count file (salvage_answer file (length copy) (length report)))
         × ((c ≡ copy_after file copy (length report)) × (r ≡ report_after file (length copy) report)))
 
-    pub salvage-refused : {x : Refusal} → salvageable file ≡ verdict.Refused x → Salvages (Refused x) copy report
+    pub salvage-refused : {x : Refusal} → salvageable file ≡ Err x → Salvages (Err x) copy report
     unfolding salvage_answer copy_after report_after salvage_check
     salvage-refused k = (rw k refl, (rw k refl, (rw k refl, rw k refl)))
 
-    pub salvage-done : {t : Tables} {a : CountAnswer} {c r : List ℕ} → OpenTables file t → salvageable file ≡ verdict.Accepted
-        → a ≡ by_verdict (room_in file t (length copy) (length report)) (Counted (length (changes_in file t))) Refused
+    pub salvage-done : {t : Tables} {a : Result ℕ Refusal} {c r : List ℕ} → OpenTables file t → salvageable file ≡ Ok tt
+        → a ≡ by_verdict (room_in file t (length copy) (length report)) (Ok (length (changes_in file t))) Err
         → c ≡ if_accepted (room_in file t (length copy) (length report)) (put_all t (changes_in file t) file) copy
         → r ≡ if_accepted (room_in file t (length copy) (length report)) (put_bytes 0 (report_bytes (changes_in file t)) report) report
         → Salvages a c r

@@ -4,14 +4,7 @@
 ghost use Rattle.std.specs.Prelude.{◌≡◌, ◌*◌, ◌≤◌};
 ghost use Rattle.salvage.specs.Answer.{room_check, report_of_count};
 
-use refusal::{Head, LimitItem, Refusal, RoomItem, Verdict};
-
-// How many changes there are, or why none are made.
-#[derive(Clone, Copy)]
-pub enum CountAnswer {
-    Counted(u64),
-    Refused(Refusal),
-}
+use refusal::{Head, LimitItem, Refusal, RoomItem};
 
 #[repr(C)]
 #[derive(Clone, Copy)]
@@ -21,28 +14,28 @@ pub struct CountReport {
 }
 
 // ROOM 0 for the copy, LIMIT item 5 for the report.
-pub fn check_room(len: u64, count: u64, copy: u64, report: u64) -> Verdict
+pub fn check_room(len: u64, count: u64, copy: u64, report: u64) -> Result<(), Refusal>
     requires { count ≤ 4294967296 }
     ensures { result ≡ room_check len count copy report }
 {
     if copy != len {
-        return Verdict::Refused(Refusal::Room(RoomItem::FileBuffer));
+        return Err(Refusal::Room(RoomItem::FileBuffer));
     }
     if report < 8 * count {
-        return Verdict::Refused(Refusal::Limit(LimitItem::SalvageReport));
+        return Err(Refusal::Limit(LimitItem::SalvageReport));
     }
-    Verdict::Accepted
+    Ok(())
 }
 
-pub fn report_count(file: &[u8], a: CountAnswer) -> CountReport
+pub fn report_count(file: &[u8], a: Result<u64, Refusal>) -> CountReport
     ensures { result ≡ report_of_count file.now a }
 {
     match a {
-        CountAnswer::Refused(x) => CountReport {
+        Err(x) => CountReport {
             head: offset::refusal_head(file, x),
             count: 0,
         },
-        CountAnswer::Counted(n) => CountReport {
+        Ok(n) => CountReport {
             head: refusal::accepted_head(),
             count: n,
         },

@@ -10,8 +10,7 @@ ghost use Rattle.salvage.specs.Salvage.{changes_in};
 ghost use Rattle.salvage.specs.Answer.{room_in, count_answer, salvage_answer, copy_after, report_after, report_of_count};
 
 use format::SymbolIndex;
-use refusal::{Refusal, Verdict};
-use salvage::CountAnswer;
+use refusal::Refusal;
 use symbol::Tables;
 
 // How many changes the tables of an opened file need.
@@ -64,63 +63,53 @@ fn report_tables(file: &[u8], report: &mut [u8], t: Tables)
 }
 
 // The copy and the report of an opened file whose symbol table shares nothing.
-fn salvage_tables(file: &[u8], copy: &mut [u8], report: &mut [u8], t: Tables) -> CountAnswer
+fn salvage_tables(
+    file: &[u8],
+    copy: &mut [u8],
+    report: &mut [u8],
+    t: Tables,
+) -> Result<u64, Refusal>
     requires { OpenTables file.now t }
-    ensures answer { result ≡ by_verdict (room_in file.now t (length copy.old) (length report.old)) (CountAnswer.Counted (length (changes_in file.now t))) CountAnswer.Refused }
+    ensures answer { result ≡ by_verdict (room_in file.now t (length copy.old) (length report.old)) (Ok (length (changes_in file.now t))) Err }
     ensures mended { copy.new ≡ if_accepted (room_in file.now t (length copy.old) (length report.old)) (put_all t (changes_in file.now t) file.now) copy.old }
     ensures reported { report.new ≡ if_accepted (room_in file.now t (length copy.old) (length report.old)) (put_bytes 0 (report_bytes (changes_in file.now t)) report.old) report.old }
 {
     let n = count_tables(file, t);
-    let v = salvage::check_room(file.len() as u64, n, copy.len() as u64, report.len() as u64);
-    match v {
-        Verdict::Refused(x) => CountAnswer::Refused(x),
-        Verdict::Accepted => {
-            file_copy::copy_file(file, copy);
-            mend_tables(file, copy, t);
-            report_tables(file, report, t);
-            CountAnswer::Counted(n)
-        }
-    }
+    salvage::check_room(file.len() as u64, n, copy.len() as u64, report.len() as u64)?;
+    file_copy::copy_file(file, copy);
+    mend_tables(file, copy, t);
+    report_tables(file, report, t);
+    Ok(n)
 }
 
 // How many changes salvaging the file makes.
-pub fn salvage_count(file: &[u8]) -> CountAnswer
+pub fn salvage_count(file: &[u8]) -> Result<u64, Refusal>
     ensures cause { result ≡ count_answer file.now }
     ensures report { report_of_count file.now result ≡ report_of_count file.now (count_answer file.now) }
 {
     let o = header::open(file);
-    let v = o.verdict;
-    match v {
-        Verdict::Refused(x) => CountAnswer::Refused(x),
-        Verdict::Accepted => {
-            let y = o.summary;
-            if shared_symbols::is_shared(y) {
-                return CountAnswer::Refused(Refusal::Shared);
-            }
-            let t = symbol::tables_of(file, y);
-            CountAnswer::Counted(count_tables(file, t))
-        }
+    o.verdict?;
+    let y = o.summary;
+    if shared_symbols::is_shared(y) {
+        return Err(Refusal::Shared);
     }
+    let t = symbol::tables_of(file, y);
+    Ok(count_tables(file, t))
 }
 
 // Writes the salvaged file into `copy`, of the file's length, and a row of 8 bytes for each change into `report`.
-pub fn salvage(file: &[u8], copy: &mut [u8], report: &mut [u8]) -> CountAnswer
+pub fn salvage(file: &[u8], copy: &mut [u8], report: &mut [u8]) -> Result<u64, Refusal>
     ensures cause { result ≡ salvage_answer file.now (length copy.old) (length report.old) }
     ensures answer { report_of_count file.now result ≡ report_of_count file.now (salvage_answer file.now (length copy.old) (length report.old)) }
     ensures copied { copy.new ≡ copy_after file.now copy.old (length report.old) }
     ensures reported { report.new ≡ report_after file.now (length copy.old) report.old }
 {
     let o = header::open(file);
-    let v = o.verdict;
-    match v {
-        Verdict::Refused(x) => CountAnswer::Refused(x),
-        Verdict::Accepted => {
-            let y = o.summary;
-            if shared_symbols::is_shared(y) {
-                return CountAnswer::Refused(Refusal::Shared);
-            }
-            let t = symbol::tables_of(file, y);
-            salvage_tables(file, copy, report, t)
-        }
+    o.verdict?;
+    let y = o.summary;
+    if shared_symbols::is_shared(y) {
+        return Err(Refusal::Shared);
     }
+    let t = symbol::tables_of(file, y);
+    salvage_tables(file, copy, report, t)
 }

@@ -13,10 +13,7 @@ use Rattle.format.specs.declared.NameField.TheVariants.{Short, Offset}
 use Rattle.format.specs.declared.SymbolIndex.{SymbolIndex}
 use Rattle.format.specs.declared.SymbolLayout.{SymbolLayout}
 use Rattle.format.specs.Range as places
-use Rattle.refusal.specs.declared.RangeAnswer.TheVariants as range
 use Rattle.refusal.specs.declared.Refusal.TheVariants.{Name}
-use Rattle.refusal.specs.declared.Verdict.{Verdict}
-use Rattle.refusal.specs.declared.Verdict.TheVariants.{Accepted}
 use Rattle.refusal.specs.Order.{first_refusal}
 use Rattle.refusal.specs.Refusal.{is_refused}
 use Rattle.refusal.proofs.Order.{accepts, accepted-first, accepted-rest, all-accept}
@@ -32,6 +29,8 @@ use Rattle.frame.proofs.Readers.{SameDebug, string-room-same, has-string-same}
 use Rattle.mend.specs.Mend.{Mend, aux_left, without_visibility, mends_of, changes_by}
 use Rattle.mend.proofs.Mended.{mended_of}
 use Rattle.mend.proofs.Judged.{aux-refused, scnum-refused, visibility-refused}
+use Rattle.std.specs.Prelude.{Err, Ok}
+use Rattle.refusal.specs.Verdict.{Verdict}
 
 -- ---- the checks of a file's mends are its symbols' own
 
@@ -42,13 +41,13 @@ verdicts (m ∷ ms) = m.verdict ∷ verdicts ms
 pub checks-listed : (l : SymbolLayout) (file : List ℕ) (t : Tables) (i : SymbolIndex) (e : SymbolEntry) → verdicts (mends_of l file t i e) ≡ symbol_checks file t i e
 checks-listed l file t i e = refl
 
-none-by : (i : SymbolIndex) (ms : List Mend) → first_refusal (verdicts ms) ≡ Accepted → changes_by i ms ≡ []
+none-by : (i : SymbolIndex) (ms : List Mend) → first_refusal (verdicts ms) ≡ Ok tt → changes_by i ms ≡ []
 unfolding changes_by
 none-by i [] h = refl
 none-by i (m ∷ ms) h =
     rw (accepted-first m.verdict (first_refusal (verdicts ms)) h) (none-by i ms (accepted-rest m.verdict (first_refusal (verdicts ms)) h))
 
-pub none-changed : (l : SymbolLayout) (file : List ℕ) (t : Tables) (i : SymbolIndex) (e : SymbolEntry) → first_refusal (symbol_checks file t i e) ≡ Accepted → changes_by i (mends_of l file t i e) ≡ []
+pub none-changed : (l : SymbolLayout) (file : List ℕ) (t : Tables) (i : SymbolIndex) (e : SymbolEntry) → first_refusal (symbol_checks file t i e) ≡ Ok tt → changes_by i (mends_of l file t i e) ≡ []
 none-changed l file t i e h = none-by i (mends_of l file t i e) h
 
 -- ---- an entry as mended, in a file with the same strings
@@ -57,21 +56,21 @@ module _ (file ys : List ℕ) (t : Tables) (i : SymbolIndex) (e : SymbolEntry) (
   abbrev m : SymbolEntry
   m = mended_of file t i e
 
-  aux-accepts : i.0 < t.count → aux_check t.count i m ≡ Accepted
+  aux-accepts : i.0 < t.count → aux_check t.count i m ≡ Ok tt
   aux-accepts h = accepts (aux_check t.count i m) (aux-refused ys t i m ∙ rw (aux-refused file t i e) (by-test (past (i.0 + 1) e.numaux t.count) refl))
     where
       by-test : (b : Bool) → past (i.0 + 1) e.numaux t.count ≡ b → past (i.0 + 1) (cond b (aux_left t i % 256) e.numaux) t.count ≡ false
       by-test true q = past-no (i.0 + 1) (aux_left t i % 256) t.count (omega arith)
       by-test false q = q
 
-  scnum-accepts : scnum_check t.nscns i m ≡ Accepted
+  scnum-accepts : scnum_check t.nscns i m ≡ Ok tt
   scnum-accepts = accepts (scnum_check t.nscns i m) (scnum-refused ys t i m ∙ rw (scnum-refused file t i e) (by-test (is_section t.nscns e.scnum) refl))
     where
       by-test : (b : Bool) → is_section t.nscns e.scnum ≡ b → not (is_section t.nscns (cond (not b) 0 e.scnum)) ≡ false
       by-test true q = rw q refl
       by-test false q = rw (← section-positive t.nscns 0 (lit≤ tt), le-leb 0 t.nscns (omega arith)) refl
 
-  visibility-accepts : visibility_check t.version2 i m ≡ Accepted
+  visibility-accepts : visibility_check t.version2 i m ≡ Ok tt
   visibility-accepts = accepts (visibility_check t.version2 i m) (visibility-refused ys t i m ∙ rw (visibility-refused file t i e) (by-test (is_unknown t.version2 e.sclass e.ntype) refl))
     where
       none : visibility_bits (without_visibility e.ntype % 0x10000) ≤ 4
@@ -93,7 +92,7 @@ module _ (file ys : List ℕ) (t : Tables) (i : SymbolIndex) (e : SymbolEntry) (
   unfolding debug_room
   debug-verdict o = rw (has-string-same t.format t.debug o ys file d) (by-test (has_string t.format file t.debug o))
     where
-      by-test : (b : Bool) → verdict_of (cond b (range.Found (string_range t.format ys t.debug o)) (range.Refused (Name i))) ≡ verdict_of (cond b (range.Found (string_range t.format file t.debug o)) (range.Refused (Name i)))
+      by-test : (b : Bool) → verdict_of (cond b (Ok (string_range t.format ys t.debug o)) (Err (Name i))) ≡ verdict_of (cond b (Ok (string_range t.format file t.debug o)) (Err (Name i)))
       by-test true = refl
       by-test false = refl
 
@@ -102,12 +101,12 @@ module _ (file ys : List ℕ) (t : Tables) (i : SymbolIndex) (e : SymbolEntry) (
   name-verdict Short = refl
   name-verdict (Offset o) = by_tests (eqb o 0) (is_debug_class e.sclass)
     where
-      by_tests : (z b : Bool) → verdict_of (cond z (range.Found (places.range 0 0)) (cond b (debug_room ys t o i) (string_room ys t.strings o i))) ≡ verdict_of (cond z (range.Found (places.range 0 0)) (cond b (debug_room file t o i) (string_room file t.strings o i)))
+      by_tests : (z b : Bool) → verdict_of (cond z (Ok (places.range 0 0)) (cond b (debug_room ys t o i) (string_room ys t.strings o i))) ≡ verdict_of (cond z (Ok (places.range 0 0)) (cond b (debug_room file t o i) (string_room file t.strings o i)))
       by_tests true b = refl
       by_tests false true = debug-verdict o
       by_tests false false = ap verdict_of (string-room-same t.strings o i s)
 
-  name-accepts : name_check ys t i m ≡ Accepted
+  name-accepts : name_check ys t i m ≡ Ok tt
   unfolding name_check
   name-accepts = accepts (verdict_of (room_by ys t i e.sclass m.name)) (by-test (is_refused (verdict_of (room_by file t i e.sclass e.name))) refl)
     where
@@ -115,5 +114,5 @@ module _ (file ys : List ℕ) (t : Tables) (i : SymbolIndex) (e : SymbolEntry) (
       by-test true q = unfold room_by in refl
       by-test false q = ap is_refused (name-verdict e.name) ∙ q
 
-  pub mended-accepted : i.0 < t.count → first_refusal (symbol_checks ys t i m) ≡ Accepted
+  pub mended-accepted : i.0 < t.count → first_refusal (symbol_checks ys t i m) ≡ Ok tt
   mended-accepted h = all-accept (symbol_checks ys t i m) (aux-accepts h, (scnum-accepts, (name-accepts, (visibility-accepts, tt))))

@@ -17,8 +17,6 @@ use Rattle.format.specs.declared.SymbolIndex.{SymbolIndex}
 use Rattle.format.specs.declared.SymbolLayout.{SymbolLayout}
 use Rattle.format.specs.Layout.{symbol_layout, symbol_length}
 use Rattle.refusal.specs.declared.Refusal.{Refusal}
-use Rattle.refusal.specs.declared.Verdict.{Verdict}
-use Rattle.refusal.specs.declared.Verdict.TheVariants.{Accepted, Refused}
 use Rattle.refusal.specs.Order.{by_verdict}
 use Rattle.symbol.specs.declared.Tables.{Tables}
 use Rattle.symbol.specs.declared.SymbolEntry.{SymbolEntry}
@@ -31,6 +29,8 @@ use Rattle.mend.proofs.Changes.{put-append}
 use Rattle.salvage.specs.Salvage.{changes_of}
 use Rattle.salvaged.specs.Claim.{bit_of, SetsBit, Unset}
 use Rattle.salvaged.proofs.Places.{Ascending, FileFrom, entry-local}
+use Rattle.std.specs.Prelude.{Err, Ok}
+use Rattle.refusal.specs.Verdict.{Verdict}
 
 -- ---- a type without its visibility
 
@@ -145,8 +145,8 @@ module _ (t : Tables) (k b : ℕ) where
       → Unset t k b (by_verdict v (changes_by i ms) (λ x. change_of i m x ∷ changes_by i ms))
       → ((bs : List ℕ) → Unset t k b (changes_by i ms) → get_or (put_all t (changes_by i ms) bs) k 0 ≡ get_or bs k 0)
       → get_or (put_all t (by_verdict v (changes_by i ms) (λ x. change_of i m x ∷ changes_by i ms)) bs) k 0 ≡ get_or bs k 0
-  whole-kept i Accepted ms m p q h bs u later = later bs u
-  whole-kept i (Refused x) ms m p q h bs u later =
+  whole-kept i (Ok tt) ms m p q h bs u later = later bs u
+  whole-kept i (Err x) ms m p q h bs u later =
       unfold put_all put in
       later (put_field (bytes_in m.place.width) (change_start t (change_of i m x)) m.value bs) u.1
       ∙ (put_local (bytes_in m.place.width) (change_start t (change_of i m x)) m.value).outside bs k
@@ -160,8 +160,8 @@ module _ (i : SymbolIndex) where
     where
       by-case : (v : Verdict) → changes_by i (ms ++ ns) ≡ changes_by i ms ++ changes_by i ns
           → by_verdict v (changes_by i (ms ++ ns)) (λ x. change_of i m x ∷ changes_by i (ms ++ ns)) ≡ by_verdict v (changes_by i ms) (λ x. change_of i m x ∷ changes_by i ms) ++ changes_by i ns
-      by-case Accepted q = q
-      by-case (Refused x) q = ap (λ (cs : List Change). change_of i m x ∷ cs) q
+      by-case (Ok tt) q = q
+      by-case (Err x) q = ap (λ (cs : List Change). change_of i m x ∷ cs) q
 
 module _ (file : List ℕ) (t : Tables) (i : SymbolIndex) (k b : ℕ) (h : b < 8) (e : SymbolEntry) (l : SymbolLayout) where
   abbrev wholes : List Mend
@@ -219,8 +219,8 @@ module _ (file : List ℕ) (t : Tables) (i : SymbolIndex) (k b : ℕ) (h : b < 8
 
       by-case : (v : Verdict) → Unset t k b (by_verdict v (changes_by i []) (λ x. change_of i type_mend x ∷ changes_by i []))
           → bit_of (get_or (put_all t (by_verdict v (changes_by i []) (λ x. change_of i type_mend x ∷ changes_by i [])) mid) k 0) b ≡ bit_of (get_or file k 0) b
-      by-case Accepted u = ap (λ (bs : List ℕ). bit_of (get_or bs k 0) b) none ∙ ap (λ (m : ℕ). bit_of m b) kept
-      by-case (Refused x) u = ap (λ (bs : List ℕ). bit_of (get_or bs k 0) b) (one-put x ∙ none) ∙ set x u.0
+      by-case (Ok tt) u = ap (λ (bs : List ℕ). bit_of (get_or bs k 0) b) none ∙ ap (λ (m : ℕ). bit_of m b) kept
+      by-case (Err x) u = ap (λ (bs : List ℕ). bit_of (get_or bs k 0) b) (one-put x ∙ none) ∙ set x u.0
 
       last : Unset t k b (changes_by i (type_mend ∷ [])) → bit_of (get_or (put_all t (changes_by i (type_mend ∷ [])) mid) k 0) b ≡ bit_of (get_or file k 0) b
       last u = unfold changes_by in by-case type_mend.verdict u

@@ -22,8 +22,6 @@ use Rattle.format.specs.Layout.{symbol_layout, symbol_length, zeroes_field}
 use Rattle.format.specs.Name.{name_field}
 use Rattle.format.proofs.Layouts.{symbol-inside}
 use Rattle.refusal.specs.Refusal.{is_refused}
-use Rattle.refusal.specs.declared.Verdict.{Verdict}
-use Rattle.refusal.specs.declared.Verdict.TheVariants.{Accepted, Refused}
 use Rattle.refusal.specs.Order.{by_verdict}
 use Rattle.visibility.specs.Visibility.{is_claimed, visibility_bits, is_unknown}
 use Rattle.symbol.specs.declared.Tables.{Tables}
@@ -41,6 +39,8 @@ use Rattle.mend.proofs.Judged.{aux-refused, scnum-refused, visibility-refused}
 use Rattle.salvage.specs.Salvage.{changes_of}
 use Rattle.salvaged.specs.Claim.{EachSets}
 use Rattle.salvaged.proofs.Places.{Mended, Ascending}
+use Rattle.std.specs.Prelude.{Err, Ok}
+use Rattle.refusal.specs.Verdict.{Verdict}
 
 never : {A : Type 0} → true ≡ false → A
 never e = absurd (let y : ◌≡◌ {A = ℕ} 0 1 = cc in omega arith)
@@ -62,8 +62,8 @@ module _ (file copy : List ℕ) (t : Tables) (i : SymbolIndex) where
   each_set (m ∷ ms) h = by-case (each_set ms h.1) m.verdict h.0
     where
       by-case : EachSets t file copy (changes_by i ms) → (v : Verdict) → (is_refused v ≡ true → MendSets m) → EachSets t file copy (by_verdict v (changes_by i ms) (λ x. change_of i m x ∷ changes_by i ms))
-      by-case rest Accepted k = rest
-      by-case rest (Refused x) k = (k refl, rest)
+      by-case rest (Ok tt) k = rest
+      by-case rest (Err x) k = (k refl, rest)
 
 -- ---- what the four fields hold after an entry's changes
 

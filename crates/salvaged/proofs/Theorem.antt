@@ -16,8 +16,6 @@ use Rattle.format.specs.declared.FileRange.{FileRange}
 use Rattle.format.specs.Layout.{symbol_length}
 use Rattle.format.specs.Range.{range, bytes_of}
 use Rattle.refusal.specs.declared.Refusal.TheVariants.{Shared}
-use Rattle.refusal.specs.declared.Verdict.{Verdict}
-use Rattle.refusal.specs.declared.Verdict.TheVariants as verdict
 use Rattle.refusal.specs.Order.{by_verdict}
 use Rattle.refusal.proofs.Order.{accepted-first, accepted-rest, accepted-test, by-verdict}
 use Rattle.file_header.specs.declared.FileHeader.{FileHeader}
@@ -27,14 +25,11 @@ use Rattle.file_tables.specs.Tables.{symbol_table, symbols_end}
 use Rattle.header.specs.declared.Summary.{Summary}
 use Rattle.header.specs.declared.Opened.{Opened}
 use Rattle.header.specs.Open.{open_of, summary_with, summary_as}
-use Rattle.debug_section.specs.declared.DebugSection.{DebugSection}
-use Rattle.debug_section.specs.declared.DebugSection.TheVariants.{One, NotOne}
 use Rattle.debug_section.specs.Debug.{debug_ranges, exactly_one, debug_of}
 use Rattle.visibility.specs.Visibility.{has_version2}
 use Rattle.symbol.specs.declared.Tables.{Tables}
 use Rattle.symbol.specs.Entry.{OpenTables, entry_start, tables_of, tables_at}
 use Rattle.walk.specs.declared.WalkEnd.{WalkEnd}
-use Rattle.walk.specs.declared.WalkAnswer.TheVariants.{Ended, Refused}
 use Rattle.walk.specs.Walk.{walk_in, walk_of}
 use Rattle.walk.proofs.Steps.{walk-ended}
 use Rattle.shared_range.specs.Shared.{Disjoint, DisjointAll}
@@ -49,7 +44,6 @@ use Rattle.frame.proofs.Readers.{SameDebug}
 use Rattle.mend.specs.Mend.{Change, put_all}
 use Rattle.mend.specs.Report.{report_bytes, put_bytes}
 use Rattle.mend.proofs.Changes.{length-report}
-use Rattle.salvage.specs.declared.CountAnswer.TheVariants.{Counted}
 use Rattle.salvage.specs.Salvage.{mended_in, changes_in, changes, salvaged, salvage_count}
 use Rattle.salvage.specs.Answer.{salvageable, salvage_check, count_answer, report_after}
 use Rattle.salvaged.specs.Claim.{bit_of, Unset, EachSets}
@@ -57,6 +51,8 @@ use Rattle.salvaged.proofs.Places.{Mended, visited-ascends, changes-local, entri
 use Rattle.salvaged.proofs.Walk.{walk-reaches, walk-unchanged}
 use Rattle.salvaged.proofs.Exact.{changes-set}
 use Rattle.salvaged.proofs.Bits.{bits-kept}
+use Rattle.std.specs.Prelude.{Err, None, Ok, Option, Some}
+use Rattle.refusal.specs.Verdict.{Verdict}
 
 -- ---- the string table lies behind the symbol table
 
@@ -67,7 +63,7 @@ table-behind : (file : List ℕ) (h : FileHeader) → Behind (symbol_table file 
 unfolding symbol_table symbols_end
 table-behind file h = either Behind (eqb h.nsyms 0) (λ _ z. absurd (z refl)) (λ _ z. refl)
 
-strings-behind : (file : List ℕ) → (open_of file).verdict ≡ verdict.Accepted → Behind (open_of file).summary.symbols
+strings-behind : (file : List ℕ) → (open_of file).verdict ≡ Ok tt → Behind (open_of file).summary.symbols
 strings-behind file e = by-format (opened-reads file e).0 (opened-reads file e).1
   where
     by-format : (f : Format) → Reads f file → Behind (open_of file).summary.symbols
@@ -76,19 +72,19 @@ strings-behind file e = by-format (opened-reads file e).0 (opened-reads file e).
         subst (λ (y : Summary). Behind y.symbols) (sym q) (unfold summary_as summary_with in table-behind file (header_at f file))
 
 -- the one debug section is among the debug sections
-one_of : (a : FileRange) (rs : List FileRange) → DisjointAll a rs → (d : FileRange) → exactly_one rs ≡ One d → Disjoint a d
+one_of : (a : FileRange) (rs : List FileRange) → DisjointAll a rs → (d : FileRange) → exactly_one rs ≡ Some d → Disjoint a d
 one_of a [] h d e = absurd (let z : ◌≡◌ {A = ℕ} 0 1 = cc in omega arith)
 one_of a (r ∷ []) h d e = let q : r ≡ d = cc in subst (λ (x : FileRange). Disjoint a x) q h.0
 one_of a (r ∷ s ∷ rs) h d e = absurd (let z : ◌≡◌ {A = ℕ} 0 1 = cc in omega arith)
 
-module _ (file : List ℕ) (accepted : salvageable file ≡ verdict.Accepted) where
+module _ (file : List ℕ) (accepted : salvageable file ≡ Ok tt) where
   abbrev y : Summary
   y = (open_of file).summary
 
   abbrev t : Tables
   t = tables_at file
 
-  opens : (open_of file).verdict ≡ verdict.Accepted
+  opens : (open_of file).verdict ≡ Ok tt
   opens = unfold salvageable in accepted-first (open_of file).verdict _ accepted
 
   shares-none : is_shared y ≡ false
@@ -133,9 +129,9 @@ module _ (file : List ℕ) (accepted : salvageable file ≡ verdict.Accepted) wh
   unfolding debug_of
   debug-kept = by-debug (exactly_one (debug_ranges y.sections y.count)) refl
     where
-      by-debug : (d : DebugSection) → exactly_one (debug_ranges y.sections y.count) ≡ d → SameDebug d (salvaged file) file
-      by-debug NotOne e = tt
-      by-debug (One d) e = kept d.start.0 d.length (one_of (symbol_range y) (debug_ranges y.sections y.count) apart.1 d e)
+      by-debug : (d : Option FileRange) → exactly_one (debug_ranges y.sections y.count) ≡ d → SameDebug d (salvaged file) file
+      by-debug None e = tt
+      by-debug (Some d) e = kept d.start.0 d.length (one_of (symbol_range y) (debug_ranges y.sections y.count) apart.1 d e)
 
   -- ---- the copy opens to the same summary
 
@@ -156,7 +152,7 @@ module _ (file : List ℕ) (accepted : salvageable file ≡ verdict.Accepted) wh
   mended = entries-mended file t 0 (mended_in file t) (visited-ascends file t t.count 0) file refl (λ k a. refl)
 
   abbrev pub reached : WalkEnd
-  reached = record { visited = length (mended_in file t); end = record { 0 = t.count }; cause = verdict.Accepted }
+  reached = record { visited = length (mended_in file t); end = record { 0 = t.count }; cause = Ok tt }
 
   walked : walk_in (salvaged file) t ≡ reached
   walked = walk-reaches file t tables (salvaged file) (strings-kept t.strings.length) debug-kept mended
@@ -164,8 +160,8 @@ module _ (file : List ℕ) (accepted : salvageable file ≡ verdict.Accepted) wh
   copy-tables : OpenTables (salvaged file) (tables_at (salvaged file))
   copy-tables = record { accepted = ap (λ (o : Opened). o.verdict) salvaged-opens ∙ opens; tables = refl }
 
-  pub salvaged-walks : walk_of (salvaged file) ≡ Ended reached
-  salvaged-walks = sym (walk-ended (salvaged file) copy-tables) ∙ ap Ended (ap (walk_in (salvaged file)) salvaged-tables ∙ walked)
+  pub salvaged-walks : walk_of (salvaged file) ≡ Ok reached
+  salvaged-walks = sym (walk-ended (salvaged file) copy-tables) ∙ ap Ok (ap (walk_in (salvaged file)) salvaged-tables ∙ walked)
 
   -- ---- every bit but those of the fields so set is the file's
 
@@ -182,22 +178,22 @@ module _ (file : List ℕ) (accepted : salvageable file ≡ verdict.Accepted) wh
 -- ---- a file whose walk reaches the end is copied as it is
 
 module _ (file : List ℕ) where
-  none-changed : (walk_in file (tables_at file)).cause ≡ verdict.Accepted → changes file ≡ []
+  none-changed : (walk_in file (tables_at file)).cause ≡ Ok tt → changes file ≡ []
   none-changed h = walk-unchanged file (tables_at file) h
 
   none-set : changes file ≡ [] → salvaged file ≡ file
   unfolding salvaged put_all
   none-set h = rw h refl
 
-  cause-of : (w : WalkEnd) → walk_of file ≡ Ended w → walk_in file (tables_at file) ≡ w
+  cause-of : (w : WalkEnd) → walk_of file ≡ Ok w → walk_in file (tables_at file) ≡ w
   unfolding walk_of
   cause-of w e = by-open (open_of file).verdict e
     where
-      by-open : (v : Verdict) → by_verdict v (Ended (walk_in file (tables_at file))) Refused ≡ Ended w → walk_in file (tables_at file) ≡ w
-      by-open verdict.Accepted k = cc
-      by-open (verdict.Refused x) k = absurd (let z : ◌≡◌ {A = ℕ} 0 1 = cc in omega arith)
+      by-open : (v : Verdict) → by_verdict v (Ok (walk_in file (tables_at file))) Err ≡ Ok w → walk_in file (tables_at file) ≡ w
+      by-open (Ok tt) k = cc
+      by-open (Err x) k = absurd (let z : ◌≡◌ {A = ℕ} 0 1 = cc in omega arith)
 
-  module _ (w : WalkEnd) (e : walk_of file ≡ Ended w) (h : w.cause ≡ verdict.Accepted) where
+  module _ (w : WalkEnd) (e : walk_of file ≡ Ok w) (h : w.cause ≡ Ok tt) where
     pub walked-unchanged : changes file ≡ []
     walked-unchanged = none-changed (ap (λ (x : WalkEnd). x.cause) (cause-of w e) ∙ h)
 
@@ -206,7 +202,7 @@ module _ (file : List ℕ) where
 
 -- ---- so salvaging the copy changes nothing and reports nothing
 
-module _ (file : List ℕ) (accepted : salvageable file ≡ verdict.Accepted) where
+module _ (file : List ℕ) (accepted : salvageable file ≡ Ok tt) where
   copy-unchanged : changes (salvaged file) ≡ []
   copy-unchanged = walked-unchanged (salvaged file) (reached file accepted) (salvaged-walks file accepted) refl
 
@@ -218,13 +214,13 @@ module _ (file : List ℕ) (accepted : salvageable file ≡ verdict.Accepted) wh
   salvaged-reports = rw copy-unchanged refl
 
   -- it is accepted too, and counts none
-  pub salvaged-accepted : salvageable (salvaged file) ≡ verdict.Accepted
+  pub salvaged-accepted : salvageable (salvaged file) ≡ Ok tt
   unfolding salvageable
   salvaged-accepted = rw (salvaged-opens file accepted) (unfold salvageable in accepted)
 
-  pub salvaged-counts : count_answer (salvaged file) ≡ Counted 0
+  pub salvaged-counts : count_answer (salvaged file) ≡ Ok 0
   unfolding count_answer
-  salvaged-counts = rw (salvaged-accepted) (ap (λ (cs : List Change). Counted (length cs)) copy-unchanged)
+  salvaged-counts = rw (salvaged-accepted) (ap (λ (cs : List Change). Ok (length cs)) copy-unchanged)
 
 -- ---- the report buffer behind the rows is untouched, and all of both buffers where salvaging is refused
 

@@ -9,13 +9,10 @@ use lib.ListN.{length}
 use borrow.Author.Tests.{leb-true, leb-false, le-leb}
 use Rattle.format.specs.declared.SymbolIndex.{SymbolIndex}
 use Rattle.format.specs.Layout.{symbol_layout, symbol_length}
-use Rattle.refusal.specs.declared.Verdict.{Verdict}
-use Rattle.refusal.specs.declared.Verdict.TheVariants as verdict
 use Rattle.refusal.specs.Order.{by_verdict, first_refusal}
 use Rattle.refusal.proofs.Order.{not-accepted, accepted-rest}
 use Rattle.symbol.specs.declared.Tables.{Tables}
 use Rattle.symbol.specs.declared.SymbolEntry.{SymbolEntry}
-use Rattle.symbol.specs.declared.SymbolAnswer.TheVariants.{Found, Refused}
 use Rattle.symbol.specs.Entry.{OpenTables, entry_start, entry_of}
 use Rattle.symbol.specs.Symbol.{index_check, symbol_checks, symbol_check, symbol_of, symbol_in}
 use Rattle.symbol.proofs.Checks.{symbol-found, symbol-in-table}
@@ -27,6 +24,8 @@ use Rattle.mend.proofs.Mended.{mended-is}
 use Rattle.salvage.specs.Salvage.{mended_from, mended_in, changes_of, changes_in}
 use Rattle.salvaged.proofs.Accepted.{none-changed, mended-accepted}
 use Rattle.salvaged.proofs.Places.{Mended}
+use Rattle.std.specs.Prelude.{Err, Ok}
+use Rattle.refusal.specs.Verdict.{Verdict}
 
 -- ---- a file with the same strings whose visited entries are as mended
 
@@ -36,11 +35,11 @@ module _ (file : List ℕ) (t : Tables) (o : OpenTables file t) (ys : List ℕ) 
   same-entry i e = symbol-entry-same t.format (entry_start t i.0) e
 
   -- each is accepted
-  entry_found : (i : SymbolIndex) → i.0 < t.count → entry_of ys t i ≡ mended_entry file t i → symbol_in ys t i ≡ Found (symbol_of t (mended_entry file t i))
+  entry_found : (i : SymbolIndex) → i.0 < t.count → entry_of ys t i ≡ mended_entry file t i → symbol_in ys t i ≡ Ok (symbol_of t (mended_entry file t i))
   entry_found i h e =
       symbol-found ys t i h refl refl
-      (subst (λ (x : SymbolEntry). first_refusal (symbol_checks ys t i x) ≡ verdict.Accepted) (sym (e ∙ mended-is file t o i h)) (mended-accepted file ys t i (entry_of file t i) s d h))
-      ∙ ap (λ (x : SymbolEntry). Found (symbol_of t x)) e
+      (subst (λ (x : SymbolEntry). first_refusal (symbol_checks ys t i x) ≡ Ok tt) (sym (e ∙ mended-is file t o i h)) (mended-accepted file ys t i (entry_of file t i) s d h))
+      ∙ ap (λ (x : SymbolEntry). Ok (symbol_of t x)) e
 
   -- so the walk visits the same entries
   pub walk-mended : (steps i : ℕ) → Mended file t ys (mended_from file t steps i) → visited_from ys t steps i ≡ mended_from file t steps i
@@ -54,7 +53,7 @@ module _ (file : List ℕ) (t : Tables) (o : OpenTables file t) (ys : List ℕ) 
       rest : List SymbolIndex
       rest = mended_from file t steps (i + 1 + (mended_entry file t here).numaux)
 
-      stepped : visit_step i (visited_from ys t steps) (Found (symbol_of t (mended_entry file t here))) ≡ here ∷ visited_from ys t steps (i + 1 + (mended_entry file t here).numaux)
+      stepped : visit_step i (visited_from ys t steps) (Ok (symbol_of t (mended_entry file t here))) ≡ here ∷ visited_from ys t steps (i + 1 + (mended_entry file t here).numaux)
       stepped = unfold visit_step symbol_of in refl
 
       by-test : (Mended file t ys rest → visited_from ys t steps (i + 1 + (mended_entry file t here).numaux) ≡ rest)
@@ -87,7 +86,7 @@ module _ (file : List ℕ) (t : Tables) (o : OpenTables file t) (ys : List ℕ) 
           let bound : i + 1 + (mended_entry file t here).numaux ≤ t.count = unfold symbol_of in symbol-in-table ys t here found in
           ap (λ (x : SymbolEntry). behind ys t (i + 1 + x.numaux) rest) e ∙ later bound m.1
 
-  pub walk-reaches : Mended file t ys (mended_in file t) → walk_in ys t ≡ record { visited = length (mended_in file t); end = record { 0 = t.count }; cause = verdict.Accepted }
+  pub walk-reaches : Mended file t ys (mended_in file t) → walk_in ys t ≡ record { visited = length (mended_in file t); end = record { 0 = t.count }; cause = Ok tt }
   unfolding walk_in visited_in
   walk-reaches m =
       let z : 0 + length (mended_in file t) ≡ length (mended_in file t) = omega arith in
@@ -97,7 +96,7 @@ module _ (file : List ℕ) (t : Tables) (o : OpenTables file t) (ys : List ℕ) 
 
 module _ (file : List ℕ) (t : Tables) where
   -- an entry that no check refuses is its own mended entry
-  none_here : (i : SymbolIndex) → first_refusal (symbol_checks file t i (entry_of file t i)) ≡ verdict.Accepted → changes_at file t i ≡ []
+  none_here : (i : SymbolIndex) → first_refusal (symbol_checks file t i (entry_of file t i)) ≡ Ok tt → changes_at file t i ≡ []
   unfolding changes_at
   none_here i h = none-changed (symbol_layout t.format) file t i (entry_of file t i) h
 
@@ -105,7 +104,7 @@ module _ (file : List ℕ) (t : Tables) where
   unfolding mended_entry put_all
   own-entry i h = rw h refl
 
-  unchanged-from : (steps i : ℕ) → cause_at file t (behind file t i (visited_from file t steps i)) ≡ verdict.Accepted → changes_of file t (mended_from file t steps i) ≡ []
+  unchanged-from : (steps i : ℕ) → cause_at file t (behind file t i (visited_from file t steps i)) ≡ Ok tt → changes_of file t (mended_from file t steps i) ≡ []
   unfolding visited_from mended_from changes_of
   unchanged-from zero i h = refl
   unchanged-from (suc steps) i h = by-test (λ j k. unchanged-from steps j k) (leb t.count i) refl h
@@ -116,23 +115,23 @@ module _ (file : List ℕ) (t : Tables) where
       entry : SymbolEntry
       entry = entry_of file t here
 
-      by-verdict : ((j : ℕ) → cause_at file t (behind file t j (visited_from file t steps j)) ≡ verdict.Accepted → changes_of file t (mended_from file t steps j) ≡ [])
+      by-verdict : ((j : ℕ) → cause_at file t (behind file t j (visited_from file t steps j)) ≡ Ok tt → changes_of file t (mended_from file t steps j) ≡ [])
           → leb t.count i ≡ false → (v : Verdict) → symbol_check file t here entry ≡ v
-          → cause_at file t (behind file t i (visit_step i (visited_from file t steps) (by_verdict v (Found (symbol_of t entry)) Refused))) ≡ verdict.Accepted
+          → cause_at file t (behind file t i (visit_step i (visited_from file t steps) (by_verdict v (Ok (symbol_of t entry)) Err))) ≡ Ok tt
           → changes_of file t (here ∷ mended_from file t steps (i + 1 + (mended_entry file t here).numaux)) ≡ []
-      by-verdict later q verdict.Accepted e k =
+      by-verdict later q (Ok tt) e k =
           let none : changes_at file t here ≡ [] = none_here here (unfold symbol_check in accepted-rest (index_check t.count here) (first_refusal (symbol_checks file t here entry)) e) in
-          let on : cause_at file t (behind file t (i + 1 + entry.numaux) (visited_from file t steps (i + 1 + entry.numaux))) ≡ verdict.Accepted = unfold visit_step symbol_of in k in
+          let on : cause_at file t (behind file t (i + 1 + entry.numaux) (visited_from file t steps (i + 1 + entry.numaux))) ≡ (Ok tt) = unfold visit_step symbol_of in k in
           unfold changes_of in rw (none, own-entry here none) (later (i + 1 + entry.numaux) on)
-      by-verdict later q (verdict.Refused x) e k =
-          let z : verdict.Refused x ≡ verdict.Accepted = unfold visit_step in sym (rw (q, e) refl) ∙ k in not-accepted z
+      by-verdict later q (Err x) e k =
+          let z : Err x ≡ (Ok tt) = unfold visit_step in sym (rw (q, e) refl) ∙ k in not-accepted z
 
-      by-test : ((j : ℕ) → cause_at file t (behind file t j (visited_from file t steps j)) ≡ verdict.Accepted → changes_of file t (mended_from file t steps j) ≡ [])
-          → (c : Bool) → leb t.count i ≡ c → cause_at file t (behind file t i (cond c [] (visit_step i (visited_from file t steps) (symbol_in file t here)))) ≡ verdict.Accepted
+      by-test : ((j : ℕ) → cause_at file t (behind file t j (visited_from file t steps j)) ≡ Ok tt → changes_of file t (mended_from file t steps j) ≡ [])
+          → (c : Bool) → leb t.count i ≡ c → cause_at file t (behind file t i (cond c [] (visit_step i (visited_from file t steps) (symbol_in file t here)))) ≡ Ok tt
           → changes_of file t (cond c [] (here ∷ mended_from file t steps (i + 1 + (mended_entry file t here).numaux))) ≡ []
       by-test later true q k = unfold changes_of in refl
       by-test later false q k = by-verdict later q (symbol_check file t here entry) refl (unfold symbol_in in k)
 
-  pub walk-unchanged : (walk_in file t).cause ≡ verdict.Accepted → changes_in file t ≡ []
+  pub walk-unchanged : (walk_in file t).cause ≡ Ok tt → changes_in file t ≡ []
   unfolding walk_in visited_in changes_in
   walk-unchanged h = unchanged-from t.count 0 h

@@ -5,10 +5,11 @@ use Prim.Native.Nat.{ℕ, zero, suc, ◌+◌, ◌-◌, ◌≤◌, ◌<◌}
 use native.Mathlib.Omega.{arith}
 use native.Mathlib.Nat.{add-zero}
 use lib.ListN.{length, get_or, drop, length-append, length-drop}
-use lib.Seq.{drop-drop, get_or-drop, drop-append_seam}
+use lib.Seq.{drop-drop, get_or-drop, drop-append_seam, take-append_seam}
 use Rattle.book.specs.Machine.{Call}
 use Rattle.book.specs.Machine.Call.{build, move}
-use Rattle.script.specs.Script.{Reader, call_end, call_at, calls_from, calls_of, call_numbers, encode}
+use Rattle.script.specs.Script.{Reader, plan_end, plan_list, call_end, call_at, calls_from, calls_of, call_numbers, encode}
+use Rattle.script.proofs.Plans.{plan-whole}
 use Rattle.script.proofs.Calls.{call_none, call-build, call-move, call_at-build, call_at-move, calls-none, calls-more}
 
 -- ---- a script by what it has from a place on
@@ -39,12 +40,39 @@ pub record Reads {P : Type 0} (r : Reader P) (numbers : P → List ℕ) (s : Lis
 abbrev pub Readable : {P : Type 0} → Reader P → (P → List ℕ) → Type 0
 Readable {P} r numbers = (s : List ℕ) (at : ℕ) (p : P) (rest : List ℕ) → drop at s ≡ numbers p ++ rest → Reads r numbers s at p
 
+-- a plan is read from its numbers: those at its head, how many its list has, and those
+pub plan-numbers-read : (s : List ℕ) (at : ℕ) (h l rest : List ℕ) → drop at s ≡ h ++ length l ∷ (l ++ rest)
+    → (plan_end (length h) s at ≡ at + length (h ++ length l ∷ l)) × (plan_list (length h) s at ≡ l)
+plan-numbers-read s at h l rest e = (ends, reads)
+  where
+    count : get_or s (at + length h) 0 ≡ length l
+    count =
+        from-get_d s at (h ++ length l ∷ (l ++ rest)) e (length h) ∙ ap (λ (k : ℕ). get_or (h ++ length l ∷ (l ++ rest)) k 0) (sym (add-zero (length h)))
+        ∙ sym (get_or-drop (length h) (h ++ length l ∷ (l ++ rest)) 0 0) ∙ ap (λ (k : List ℕ). get_or k 0 0) (drop-append_seam h (length l ∷ (l ++ rest)))
+
+    after : drop (at + (length h + 1)) s ≡ l ++ rest
+    after =
+        from-drop s at (h ++ length l ∷ (l ++ rest)) e (length h + 1) ∙ sym (drop-drop 1 (length h) (h ++ length l ∷ (l ++ rest)))
+        ∙ ap (drop 1) (drop-append_seam h (length l ∷ (l ++ rest)))
+
+    ends : plan_end (length h) s at ≡ at + length (h ++ length l ∷ l)
+    ends =
+        let k = from-length s at (h ++ length l ∷ (l ++ rest)) e in
+        let a = length-append h (length l ∷ (l ++ rest)) in
+        let b = length-append l rest in
+        let d = length-append h (length l ∷ l) in
+        let n = count in
+        sym (plan-whole (length h) s at (omega arith) (omega arith)) ∙ (let t : at + length h + 1 + get_or s (at + length h) 0 ≡ at + length (h ++ length l ∷ l) = omega arith in t)
+
+    reads : plan_list (length h) s at ≡ l
+    reads = unfold plan_list in (rw (count, after) (take-append_seam l rest))
+
 module _ {P : Type 0} (r : Reader P) (numbers : P → List ℕ) (readable : Readable r numbers) where
   -- the call c is at the place, and after it the numbers that follow
   record ReadCall (s : List ℕ) (at : ℕ) (c : Call P) (rest : List ℕ) : Type 0 where
-    there : call_end r s at ≡ 0 → ⊥
+    there : call_end r.end s at ≡ 0 → ⊥
     call : call_at r s at ≡ c
-    after : drop (call_end r s at) s ≡ rest
+    after : drop (call_end r.end s at) s ≡ rest
 
   module _ (s : List ℕ) (at : ℕ) (rest : List ℕ) where
     -- the first number is in the script
@@ -62,7 +90,7 @@ module _ {P : Type 0} (r : Reader P) (numbers : P → List ℕ) (readable : Read
     build-read p e =
         let d = from-drop s at _ e 1 in
         let z = from_first s at _ e in
-        let h = call-build r s at (first-there 0 _ e) z in
+        let h = call-build r.end s at (first-there 0 _ e) z in
         let n = readable s (at + 1) p rest d in
         record {
           there = λ x. (let l = n.end in absurd (omega arith));
@@ -78,7 +106,7 @@ module _ {P : Type 0} (r : Reader P) (numbers : P → List ℕ) (readable : Read
         let a = readable s (at + 1) p (numbers q ++ rest) d in
         let g = plan-rest (at + 1) p (numbers q ++ rest) d in
         let b = readable s (r.end s (at + 1)) q rest g in
-        let h = call-move r s at _ _ (first-there 1 _ e) z refl (λ x. (let l = a.end in absurd (omega arith))) refl in
+        let h = call-move r.end s at _ _ (first-there 1 _ e) z refl (λ x. (let l = a.end in absurd (omega arith))) refl in
         record {
           there = λ x. (let l = b.end in let k = a.end in absurd (omega arith));
           call = sym (call_at-move r s at z) ∙ ap₂ (λ (u v : P). move u v) a.plan b.plan;
@@ -96,12 +124,12 @@ module _ {P : Type 0} (r : Reader P) (numbers : P → List ℕ) (readable : Read
   unfolding encode
   encoded-from [] n s at h e =
       let l = from-length s at [] e in
-      calls-none r s n at (sym (call_none r s at (omega arith)))
+      calls-none r s n at (sym (call_none r.end s at (omega arith)))
   encoded-from (c ∷ cs) zero s at h e = absurd (omega arith)
   encoded-from (c ∷ cs) (suc n) s at h e =
       let d = call-read s at (encode numbers cs) c e in
-      calls-more r s n at d.there ∙ ap (λ (k : Call P). k ∷ calls_from r n s (call_end r s at)) d.call
-      ∙ ap (λ (l : List (Call P)). c ∷ l) (encoded-from cs n s (call_end r s at) (omega arith) d.after)
+      calls-more r s n at d.there ∙ ap (λ (k : Call P). k ∷ calls_from r n s (call_end r.end s at)) d.call
+      ∙ ap (λ (l : List (Call P)). c ∷ l) (encoded-from cs n s (call_end r.end s at) (omega arith) d.after)
 
   -- a list has no more calls than numbers
   encode-longer : (cs : List (Call P)) → length cs ≤ length (encode numbers cs)

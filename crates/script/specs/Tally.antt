@@ -1,5 +1,5 @@
 -- What a list of calls answers, whatever an answer is.
-use Rattle.std.specs.Prelude.{List, [], ◌∷◌, ℕ, ◌+◌}
+use Rattle.std.specs.Prelude.{List, [], ◌∷◌, ℕ, ◌+◌, Result, Ok, Err}
 use Rattle.book.specs.Machine.{Call, Machine, effect}
 
 -- the answer of each call, made on what the last one left
@@ -16,3 +16,8 @@ sum_of one (a ∷ bs) = one a + sum_of one bs
 unfoldable pub last_of : {A : Type 0} → A → List A → A
 last_of a [] = a
 last_of a (b ∷ bs) = last_of b bs
+
+-- 1 of an accepted call, 0 of a refused one
+unfoldable pub accepted_one : {A E : Type 0} → Result A E → ℕ
+accepted_one (Ok r) = 1
+accepted_one (Err x) = 0

@@ -8,29 +8,28 @@ use Rattle.word.proofs.Test.{either, past-not, or-first, or-second}
 use Rattle.format.specs.declared.Format.{Format}
 use Rattle.format.specs.declared.SectionNumber.{SectionNumber}
 use Rattle.section_kind.specs.declared.SectionKind.{SectionKind}
-use Rattle.section_kind.specs.declared.KindAnswer.{KindAnswer}
-use Rattle.section_kind.specs.declared.KindAnswer.TheVariants.{Allowed, NotAllowed}
 use Rattle.format.specs.Layout.{address_limit}
 use Rattle.section_kind.specs.Kind.{kind_of}
 use Rattle.section.specs.declared.SectionHeader.{SectionHeader}
-use Rattle.section.specs.declared.SectionAnswer.{SectionAnswer}
-use Rattle.section.specs.declared.SectionAnswer.TheVariants.{Found, Refused}
 use Rattle.refusal.specs.declared.Refusal.TheVariants.{Kind, Bounds}
 use Rattle.refusal.specs.declared.BoundsItem.TheVariants.{RawData}
 use Rattle.section.specs.Section.{raw_data_past, misplaced, section_of, judge_kind, judge_section, SectionWithin}
+use Rattle.std.specs.Prelude.{Err, None, Ok, Option, Result, Some}
+use Rattle.refusal.specs.declared.Refusal.{Refusal}
+use Rattle.section.specs.declared.Section.{Section}
 
-abbrev pub Judged : Format → ℕ → SectionAnswer → Type 0
-Judged f len (Found s) = SectionWithin f len s
-Judged f len (Refused x) = Unit {0}
+abbrev pub Judged : Format → ℕ → Result Section Refusal → Type 0
+Judged f len (Ok s) = SectionWithin f len s
+Judged f len (Err x) = Unit {0}
 
 module _ (f : Format) (len : ℕ) (h : SectionHeader) where
   -- KIND, whatever BOUNDS and ADDRESS would say
-  pub kind-first : (n : SectionNumber) → kind_of h.flags ≡ NotAllowed → judge_section f len h n ≡ Refused (Kind n)
+  pub kind-first : (n : SectionNumber) → kind_of h.flags ≡ None → judge_section f len h n ≡ Err (Kind n)
   unfolding judge_section judge_kind
   kind-first n e = rw e refl
 
   -- then BOUNDS, whatever ADDRESS would say
-  pub bounds-next : (n : SectionNumber) (k : SectionKind) → kind_of h.flags ≡ Allowed k → raw_data_past k len h ≡ true → judge_section f len h n ≡ Refused (Bounds (RawData n))
+  pub bounds-next : (n : SectionNumber) (k : SectionKind) → kind_of h.flags ≡ Some k → raw_data_past k len h ≡ true → judge_section f len h n ≡ Err (Bounds (RawData n))
   unfolding judge_section judge_kind
   bounds-next n k e r = rw (e, r) refl
 
@@ -43,10 +42,10 @@ module _ (f : Format) (len : ℕ) (h : SectionHeader) where
         address-in = λ p. past-not h.vaddr.0 h.size (address_limit f) (or-second (not (eqb h.vaddr.0 h.paddr.0)) _ (rw p at m));
       }
 
-  kind-judged : (n : SectionNumber) (a : KindAnswer) → Judged f len (judge_kind f len h n a)
+  kind-judged : (n : SectionNumber) (a : Option SectionKind) → Judged f len (judge_kind f len h n a)
   unfolding judge_kind
-  kind-judged n NotAllowed = tt
-  kind-judged n (Allowed k) =
+  kind-judged n None = tt
+  kind-judged n (Some k) =
       either (Judged f len) (raw_data_past k len h) (λ _. tt)
       (λ a. either (Judged f len) (misplaced f k h) (λ _. tt) (λ m. section-inside k a m))
 

@@ -1,12 +1,10 @@
 -- One section: what its header holds, and the order in which it is judged: KIND, BOUNDS, ADDRESS.
-use Rattle.std.specs.Prelude.{ℕ, ◌+◌, ◌≤◌, ◌≡◌, Bool, true, not, cond, ◌&&◌, ◌||◌, List, eqb}
+use Rattle.std.specs.Prelude.{ℕ, ◌+◌, ◌≤◌, ◌≡◌, Bool, true, not, cond, ◌&&◌, ◌||◌, List, eqb, Err, None, Ok, Option, Result, Some}
 use Rattle.word.specs.Number.{field_in}
 use Rattle.word.specs.Test.{past}
 use Rattle.format.specs.declared.Format.{Format}
 use Rattle.section_kind.specs.declared.SectionKind.{SectionKind}
 use Rattle.format.specs.declared.SectionNumber.{SectionNumber}
-use Rattle.section_kind.specs.declared.KindAnswer.{KindAnswer}
-use Rattle.section_kind.specs.declared.KindAnswer.TheVariants.{Allowed, NotAllowed}
 use Rattle.format.specs.Layout.{section_layout, address_limit}
 use Rattle.section_kind.specs.Kind.{kind_of, has_raw_kind, is_placed_kind}
 use Rattle.refusal.specs.declared.Refusal.TheVariants.{Kind, Bounds, Address}
@@ -14,8 +12,7 @@ use Rattle.refusal.specs.declared.BoundsItem.TheVariants.{RawData}
 use Rattle.refusal.specs.declared.AddressItem.TheVariants.{Misplaced}
 use Rattle.section.specs.declared.SectionHeader.{SectionHeader}
 use Rattle.section.specs.declared.Section.{Section}
-use Rattle.section.specs.declared.SectionAnswer.{SectionAnswer}
-use Rattle.section.specs.declared.SectionAnswer.TheVariants.{Found, Refused}
+use Rattle.refusal.specs.declared.Refusal.{Refusal}
 
 -- the numbers of the section header at base
 unfoldable pub section_header_at : Format → ℕ → List ℕ → SectionHeader
@@ -61,15 +58,15 @@ section_of k h =
     }
 
 -- KIND, BOUNDS, ADDRESS
-unfoldable pub judge_kind : Format → ℕ → SectionHeader → SectionNumber → KindAnswer → SectionAnswer
-judge_kind f len h n NotAllowed = Refused (Kind n)
-judge_kind f len h n (Allowed k) =
-    cond (raw_data_past k len h) (Refused (Bounds (RawData n)))
-    (cond (misplaced f k h) (Refused (Address (Misplaced n)))
-    (Found (section_of k h)))
+unfoldable pub judge_kind : Format → ℕ → SectionHeader → SectionNumber → Option SectionKind → Result Section Refusal
+judge_kind f len h n None = Err (Kind n)
+judge_kind f len h n (Some k) =
+    cond (raw_data_past k len h) (Err (Bounds (RawData n)))
+    (cond (misplaced f k h) (Err (Address (Misplaced n)))
+    (Ok (section_of k h)))
 
 -- what section n is judged to be, with the header h in a file of `len` bytes
-unfoldable pub judge_section : Format → ℕ → SectionHeader → SectionNumber → SectionAnswer
+unfoldable pub judge_section : Format → ℕ → SectionHeader → SectionNumber → Result Section Refusal
 judge_section f len h n = judge_kind f len h n (kind_of h.flags)
 
 -- what an accepted section guarantees: raw data is inside the file's `len` bytes, and text, data and bss are inside the address space

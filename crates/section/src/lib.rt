@@ -7,7 +7,7 @@ ghost use Rattle.section.specs.Section.{section_header_at, has_raw_data, raw_dat
 
 use format::{FileOffset, Format, SectionNumber, VirtualAddress};
 use refusal::{AddressItem, BoundsItem, Refusal};
-use section_kind::{KindAnswer, SectionKind};
+use section_kind::SectionKind;
 
 // A section header's numbers, as they stand in the file.
 #[derive(Clone, Copy)]
@@ -38,12 +38,6 @@ pub struct Section {
     pub nlnno: u64,
     // whether raw data exists
     pub raw: bool,
-}
-
-#[derive(Clone, Copy)]
-pub enum SectionAnswer {
-    Found(Section),
-    Refused(Refusal),
 }
 
 pub fn read_section_header(file: &[u8], f: Format, base: usize) -> SectionHeader
@@ -133,20 +127,25 @@ fn section_of(k: SectionKind, h: SectionHeader) -> Section
 }
 
 // The record of section `n`, whose header is `h`, in a file of `len` bytes, or the first reason against it.
-pub fn judge_section(f: Format, len: u64, h: SectionHeader, n: SectionNumber) -> SectionAnswer
+pub fn judge_section(
+    f: Format,
+    len: u64,
+    h: SectionHeader,
+    n: SectionNumber,
+) -> Result<Section, Refusal>
     ensures { result ≡ judge_section f len h n }
 {
     let a = SectionKind::of_flags(h.flags);
     match a {
-        KindAnswer::NotAllowed => SectionAnswer::Refused(Refusal::Kind(n)),
-        KindAnswer::Allowed(k) => {
+        None => Err(Refusal::Kind(n)),
+        Some(k) => {
             if is_raw_data_past(k, len, h) {
-                return SectionAnswer::Refused(Refusal::Bounds(BoundsItem::RawData(n)));
+                return Err(Refusal::Bounds(BoundsItem::RawData(n)));
             }
             if is_misplaced(f, k, h) {
-                return SectionAnswer::Refused(Refusal::Address(AddressItem::Misplaced(n)));
+                return Err(Refusal::Address(AddressItem::Misplaced(n)));
             }
-            SectionAnswer::Found(section_of(k, h))
+            Ok(section_of(k, h))
         }
     }
 }

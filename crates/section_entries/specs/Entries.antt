@@ -1,8 +1,6 @@
 -- Every relocation entry of a section's own table, in order: LREL, OVERLAP.
-use Rattle.std.specs.Prelude.{ℕ, ◌≤◌, ◌<◌, ◌≡◌, true, false, cond, ltb, List}
+use Rattle.std.specs.Prelude.{ℕ, ◌≤◌, ◌<◌, ◌≡◌, true, false, cond, ltb, List, Ok}
 use Rattle.refusal.specs.declared.Refusal.TheVariants.{SectionOverlap}
-use Rattle.refusal.specs.declared.Verdict.{Verdict}
-use Rattle.refusal.specs.declared.Verdict.TheVariants.{Accepted}
 use Rattle.refusal.specs.Refusal.{is_refused}
 use Rattle.refusal.specs.Order.{◌or_else◌, refuse_if, first_of}
 use Rattle.symbol.specs.declared.Tables.{Tables}
@@ -11,6 +9,7 @@ use Rattle.section_relocation.specs.declared.ObjectSection.{ObjectSection}
 use Rattle.section_relocation.specs.Entry.{field_in, name_of, TableReady}
 use Rattle.section_overlap.specs.Overlap.{meets}
 use Rattle.object_entry.specs.Entry.{own_at}
+use Rattle.refusal.specs.Verdict.{Verdict}
 
 -- entry i: LREL, then OVERLAP where its field meets an earlier entry's that isn't the same, kind included
 unfoldable pub entry_check : List ℕ → Tables → ObjectSection → ℕ → Verdict
@@ -30,7 +29,7 @@ pub record FirstRefused (check : ℕ → Verdict) (n k : ℕ) : Type 0 where
 
 -- what check k of n says; there is none from n on
 abbrev pub verdict_at : (ℕ → Verdict) → ℕ → ℕ → Verdict
-verdict_at check n k = cond (ltb k n) (check k) Accepted
+verdict_at check n k = cond (ltb k n) (check k) (Ok tt)
 
 -- what the checks before these leave known
 pub record EntriesReady (file : List ℕ) (t : Tables) (s : ObjectSection) : Type 0 where

@@ -5,15 +5,15 @@ ghost use Rattle.std.specs.Prelude.{◌≡◌};
 ghost use Rattle.object_entry.specs.Entry.{own_at};
 ghost use Rattle.section_entries.specs.Entries.{entries_check, FirstRefused, verdict_at, EntriesReady};
 
-use refusal::{Refusal, Verdict};
+use refusal::Refusal;
 use section_relocation::ObjectSection;
 use symbol::Tables;
 
-// The first entry that LREL refuses and its refusal, or how many entries there are.
+// The first entry that LREL refuses and its refusal, or how many entries there are. Not an `Option`: the number is needed in both cases.
 #[derive(Clone, Copy)]
 struct OwnAnswer {
     first: u64,
-    verdict: Verdict,
+    verdict: Result<(), Refusal>,
 }
 
 fn first_refused(file: &[u8], t: Tables, s: ObjectSection) -> OwnAnswer
@@ -22,25 +22,23 @@ fn first_refused(file: &[u8], t: Tables, s: ObjectSection) -> OwnAnswer
     ensures verdict { result.verdict ≡ verdict_at (own_at file.now t s) s.count result.first }
 {
     let n = s.count;
-    let mut i: u64 = 0;
-    while i < n {
+    for i in 0..n {
         let v = object_entry::check_own(file, t, s, i);
-        if refusal::refuses(v) {
+        if v.is_err() {
             return OwnAnswer {
                 first: i,
                 verdict: v,
             };
         }
-        i += 1;
     }
     OwnAnswer {
         first: n,
-        verdict: Verdict::Accepted,
+        verdict: Ok(()),
     }
 }
 
 // The entries in order: an OVERLAP before the first entry that is refused by itself comes before that refusal.
-pub fn check_entries(file: &[u8], t: Tables, s: ObjectSection) -> Verdict
+pub fn check_entries(file: &[u8], t: Tables, s: ObjectSection) -> Result<(), Refusal>
     requires { EntriesReady file.now t s }
     ensures { result ≡ entries_check file.now t s }
 {
@@ -49,7 +47,7 @@ pub fn check_entries(file: &[u8], t: Tables, s: ObjectSection) -> Verdict
     let f = t.format;
     let x = section_overlap::first_overlap(file, f, s, k);
     if x < k {
-        return Verdict::Refused(Refusal::SectionOverlap(section_relocation::name_of(s, x)));
+        return Err(Refusal::SectionOverlap(section_relocation::name_of(s, x)));
     }
     own.verdict
 }

@@ -2,8 +2,8 @@
 use mathlib.Core.Path.{◌≡◌, refl, sym, ◌∙◌, ap}
 use mathlib.Core.Bool.{Bool, true, false, cond, not, ◌&&◌, ◌||◌}
 use mathlib.Core.List.{List, [], ◌∷◌}
-use mathlib.Core.Logic.{◌⊎◌, inl, inr, ⊎_elim}
-use Prim.Native.Nat.{ℕ, zero, suc, ◌+◌, ◌/◌, ◌%◌, ◌≤◌, ◌<◌}
+use mathlib.Core.Logic.{◌⊎◌, inl, inr}
+use Prim.Native.Nat.{ℕ, zero, suc, ◌/◌, ◌%◌, ◌<◌}
 use native.Mathlib.Decide.{ℕ_discrete}
 use native.Mathlib.Omega.{arith}
 use borrow.Author.Tests.{eqb-true, eq-eqb, ne_eqb}
@@ -11,10 +11,9 @@ use lib.Dec.{eqb}
 use lib.ListN.{length, get_or}
 use Rattle.section_kind.specs.declared.SectionKind.{SectionKind}
 use Rattle.section_kind.specs.declared.SectionKind.TheVariants.{Deleted, Dwarf, Loader}
-use Rattle.section_kind.specs.declared.KindAnswer.{KindAnswer}
-use Rattle.section_kind.specs.declared.KindAnswer.TheVariants.{Allowed, NotAllowed}
 use Rattle.section_kind.specs.Kind.{flags_of, kinds, kind_in, listed_kind, kind_of}
 use Rattle.section_kind.specs.Claim.{thirteen, Names}
+use Rattle.std.specs.Prelude.{None, Some}
 
 -- ---- the list holds 01's thirteen kinds, each once
 
@@ -72,16 +71,16 @@ record At (low : ℕ) (ks : List SectionKind) (k : SectionKind) : Type 0 where
   flags : flags_of k ≡ low
 
 -- what is found is in the list
-found_at : (low : ℕ) (ks : List SectionKind) (k : SectionKind) → kind_in low ks ≡ Allowed k → At low ks k
+found_at : (low : ℕ) (ks : List SectionKind) (k : SectionKind) → kind_in low ks ≡ Some k → At low ks k
 found_at low [] k e = let z : ◌≡◌ {A = ℕ} 0 1 = cc in absurd (omega arith)
 found_at low (x ∷ ks) k e = by-test (eqb (flags_of x) low) refl e (λ q. found_at low ks k q)
   where
-    by-test : (b : Bool) → eqb (flags_of x) low ≡ b → cond b (Allowed x) (kind_in low ks) ≡ Allowed k → (kind_in low ks ≡ Allowed k → At low ks k) → At low (x ∷ ks) k
+    by-test : (b : Bool) → eqb (flags_of x) low ≡ b → cond b (Some x) (kind_in low ks) ≡ Some k → (kind_in low ks ≡ Some k → At low ks k) → At low (x ∷ ks) k
     by-test true t q rest = let s : x ≡ k = cc in record { place = 0; inside = omega arith; listed = s; flags = ap flags_of (sym s) ∙ eqb-true (flags_of x) low t }
     by-test false t q rest = let r = rest q in let h = r.inside in record { place = suc r.place; inside = omega arith; listed = r.listed; flags = r.flags }
 
 -- what is in the list is found: the first kind with these flags is the only one
-at-found : (low : ℕ) (ks : List SectionKind) → each_own ks ≡ true → (i : ℕ) → i < length ks → flags_of (get_or ks i Deleted) ≡ low → kind_in low ks ≡ Allowed (get_or ks i Deleted)
+at-found : (low : ℕ) (ks : List SectionKind) → each_own ks ≡ true → (i : ℕ) → i < length ks → flags_of (get_or ks i Deleted) ≡ low → kind_in low ks ≡ Some (get_or ks i Deleted)
 at-found low [] t i h e = absurd (omega arith)
 at-found low (k ∷ ks) t zero h e = rw (eq-eqb (flags_of k) low e) refl
 at-found low (k ∷ ks) t (suc i) h e =
@@ -89,11 +88,11 @@ at-found low (k ∷ ks) t (suc i) h e =
     rw (ne_eqb (flags_of k) low other) (at-found low ks (no-and-rest (has (flags_of k) ks) (each_own ks) t) i (omega arith) e)
 
 -- flags other than all ones that are allowed have their low 16 bits in the list, and the high 16 are 0 or the kind is dwarf
-pub allowed-listed : (flags : ℕ) (k : SectionKind) → (flags ≡ 0xFFFFFFFF → ⊥) → kind_of flags ≡ Allowed k → Names flags k
+pub allowed-listed : (flags : ℕ) (k : SectionKind) → (flags ≡ 0xFFFFFFFF → ⊥) → kind_of flags ≡ Some k → Names flags k
 unfolding kind_of listed_kind
 allowed-listed flags k n e = by_high (eqb (flags / 65536) 0) refl (eqb (flags % 65536) (flags_of Dwarf)) refl (rw (ne_eqb flags 0xFFFFFFFF n) at e)
   where
-    named : kind_in (flags % 65536) kinds ≡ Allowed k → (At (flags % 65536) kinds k → (flags / 65536 ≡ 0) ⊎ (k ≡ Dwarf)) → Names flags k
+    named : kind_in (flags % 65536) kinds ≡ Some k → (At (flags % 65536) kinds k → (flags / 65536 ≡ 0) ⊎ (k ≡ Dwarf)) → Names flags k
     named q h = let r = found_at (flags % 65536) kinds k q in record { place = r.place; inside = r.inside; listed = r.listed; low = r.flags; high = h r }
 
     dwarf : flags % 65536 ≡ flags_of Dwarf → At (flags % 65536) kinds k → k ≡ Dwarf
@@ -101,24 +100,24 @@ allowed-listed flags k n e = by_high (eqb (flags / 65536) 0) refl (eqb (flags % 
         let i = each-once r.place 1 r.inside (omega arith) (ap flags_of r.listed ∙ r.flags ∙ w) in
         sym r.listed ∙ ap (λ (j : ℕ). get_or kinds j Deleted) i
 
-    by_high : (a : Bool) → eqb (flags / 65536) 0 ≡ a → (b : Bool) → eqb (flags % 65536) (flags_of Dwarf) ≡ b → cond (a || b) (kind_in (flags % 65536) kinds) NotAllowed ≡ Allowed k → Names flags k
+    by_high : (a : Bool) → eqb (flags / 65536) 0 ≡ a → (b : Bool) → eqb (flags % 65536) (flags_of Dwarf) ≡ b → cond (a || b) (kind_in (flags % 65536) kinds) None ≡ Some k → Names flags k
     by_high true t b u q = named q (λ r. inl (eqb-true (flags / 65536) 0 t))
     by_high false t true u q = named q (λ r. inr (dwarf (eqb-true (flags % 65536) (flags_of Dwarf) u) r))
     by_high false t false u q = let z : ◌≡◌ {A = ℕ} 0 1 = cc in absurd (omega arith)
 
 -- and such flags are allowed
-pub listed-allowed : (flags : ℕ) (k : SectionKind) → (flags ≡ 0xFFFFFFFF → ⊥) → Names flags k → kind_of flags ≡ Allowed k
+pub listed-allowed : (flags : ℕ) (k : SectionKind) → (flags ≡ 0xFFFFFFFF → ⊥) → Names flags k → kind_of flags ≡ Some k
 unfolding kind_of listed_kind
 listed-allowed flags k n r = rw (ne_eqb flags 0xFFFFFFFF n) (by_high r.high)
   where
-    found : kind_in (flags % 65536) kinds ≡ Allowed k
-    found = at-found (flags % 65536) kinds refl r.place r.inside (ap flags_of r.listed ∙ r.low) ∙ ap Allowed r.listed
+    found : kind_in (flags % 65536) kinds ≡ Some k
+    found = at-found (flags % 65536) kinds refl r.place r.inside (ap flags_of r.listed ∙ r.low) ∙ ap Some r.listed
 
-    by_high : (flags / 65536 ≡ 0) ⊎ (k ≡ Dwarf) → cond (eqb (flags / 65536) 0 || eqb (flags % 65536) (flags_of Dwarf)) (kind_in (flags % 65536) kinds) NotAllowed ≡ Allowed k
+    by_high : (flags / 65536 ≡ 0) ⊎ (k ≡ Dwarf) → cond (eqb (flags / 65536) 0 || eqb (flags % 65536) (flags_of Dwarf)) (kind_in (flags % 65536) kinds) None ≡ Some k
     by_high (inl z) = rw (eq-eqb (flags / 65536) 0 z) found
     by_high (inr d) = rw (eq-eqb (flags % 65536) (flags_of Dwarf) (sym r.low ∙ ap flags_of d)) (or_kept (eqb (flags / 65536) 0))
       where
-        or_kept : (b : Bool) → cond (b || true) (kind_in (flags % 65536) kinds) NotAllowed ≡ Allowed k
+        or_kept : (b : Bool) → cond (b || true) (kind_in (flags % 65536) kinds) None ≡ Some k
         or_kept true = found
         or_kept false = found
 
@@ -133,7 +132,7 @@ flags-or-dwarf flags k r = by r.high
     by (inr d) = inr d
 
 -- a section is the loader's by its kind exactly where its header has the loader's flags
-pub loader-flags : (flags : ℕ) (k : SectionKind) → kind_of flags ≡ Allowed k → eqb (flags_of k) (flags_of Loader) ≡ eqb flags (flags_of Loader)
+pub loader-flags : (flags : ℕ) (k : SectionKind) → kind_of flags ≡ Some k → eqb (flags_of k) (flags_of Loader) ≡ eqb flags (flags_of Loader)
 loader-flags flags k e = by (ℕ_discrete flags 0xFFFFFFFF)
   where
     listed : (r : Names flags k) → (flags_of k ≡ flags) ⊎ (k ≡ Dwarf) → eqb (flags_of k) (flags_of Loader) ≡ eqb flags (flags_of Loader)
@@ -144,7 +143,7 @@ loader-flags flags k e = by (ℕ_discrete flags 0xFFFFFFFF)
         rw (d, ne_eqb flags (flags_of Loader) other) refl
 
     deleted : flags ≡ 0xFFFFFFFF → Deleted ≡ k
-    deleted q = unfold kind_of in let a : Allowed Deleted ≡ Allowed k = rw (eq-eqb flags 0xFFFFFFFF q) at e in cc
+    deleted q = unfold kind_of in let a : Some Deleted ≡ Some k = rw (eq-eqb flags 0xFFFFFFFF q) at e in cc
 
     by : Dec (flags ≡ 0xFFFFFFFF) → eqb (flags_of k) (flags_of Loader) ≡ eqb flags (flags_of Loader)
     by (yes q) = let d = deleted q in rw (← d, q) refl

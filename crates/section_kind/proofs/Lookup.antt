@@ -1,19 +1,33 @@
 -- Looking flags up in a list, one kind at a time. Assumes nothing.
-use mathlib.Core.Path.{◌≡◌, refl, ◌∙◌}
-use mathlib.Core.Bool.{Bool, true, false, cond, ◌||◌}
-use mathlib.Core.List.{List, [], ◌∷◌}
-use Prim.Native.Nat.{ℕ, zero, suc, ◌+◌, ◌≤◌, ◌<◌}
+use mathlib.Core.Path.{◌≡◌, refl}
+use Prim.Native.Nat.{ℕ, zero, suc, ◌+◌, ◌<◌}
 use native.Mathlib.Omega.{arith}
 use borrow.Author.Tests.{eq-eqb, ne_eqb}
-use lib.Dec.{eqb}
 use lib.ListN.{length, get_or, drop}
+use mathlib.Core.Bool.{Bool, true, false, cond, ◌||◌}
+use mathlib.Core.List.{List, [], ◌∷◌}
+use lib.Dec.{eqb}
 use Rattle.section_kind.specs.declared.SectionKind.{SectionKind}
 use Rattle.section_kind.specs.declared.SectionKind.TheVariants.{Deleted}
-use Rattle.section_kind.specs.declared.KindAnswer.TheVariants.{Allowed, NotAllowed}
+use Rattle.std.proofs.Common.{Option, Some, None}
+use Rattle.std.specs.List.{find}
 use Rattle.section_kind.specs.Kind.{flags_of, kind_in}
 
+-- what is found in a list, by the first kind there that has the flags
+abbrev pub answer : Option SectionKind → Option SectionKind
+answer None = None
+answer (Some k) = Some k
+
+pub kind-found : (low : ℕ) (ks : List SectionKind) → answer (find (λ k. eqb (flags_of k) low) ks) ≡ kind_in low ks
+kind-found low [] = refl
+kind-found low (k ∷ ks) = by-test (eqb (flags_of k) low) (kind-found low ks)
+  where
+    by-test : (b : Bool) → answer (find (λ k. eqb (flags_of k) low) ks) ≡ kind_in low ks → answer (cond b (Some k) (find (λ k. eqb (flags_of k) low) ks)) ≡ cond b (Some k) (kind_in low ks)
+    by-test true h = refl
+    by-test false h = h
+
 -- the kind at place i has the flags
-pub kind-here : (low : ℕ) (ks : List SectionKind) (i : ℕ) → i < length ks → flags_of (get_or ks i Deleted) ≡ low → kind_in low (drop i ks) ≡ Allowed (get_or ks i Deleted)
+pub kind-here : (low : ℕ) (ks : List SectionKind) (i : ℕ) → i < length ks → flags_of (get_or ks i Deleted) ≡ low → kind_in low (drop i ks) ≡ Some (get_or ks i Deleted)
 kind-here low [] i h e = absurd (omega arith)
 kind-here low (k ∷ ks) zero h e = rw (eq-eqb (flags_of k) low e) refl
 kind-here low (k ∷ ks) (suc i) h e = kind-here low ks i (omega arith) e
@@ -23,13 +37,6 @@ pub kind-next : (low : ℕ) (ks : List SectionKind) (i : ℕ) → i < length ks 
 kind-next low [] i h n = absurd (omega arith)
 kind-next low (k ∷ ks) zero h n = rw (ne_eqb (flags_of k) low n) refl
 kind-next low (k ∷ ks) (suc i) h n = let s : suc i + 1 ≡ suc (i + 1) = omega arith in rw s (kind-next low ks i (omega arith) n)
-
--- none is left
-pub kind-end : (low : ℕ) (ks : List SectionKind) (i : ℕ) → length ks ≤ i → NotAllowed ≡ kind_in low (drop i ks)
-kind-end low [] zero h = refl
-kind-end low [] (suc i) h = refl
-kind-end low (k ∷ ks) zero h = absurd (omega arith)
-kind-end low (k ∷ ks) (suc i) h = kind-end low ks i (omega arith)
 
 -- the last of some tests
 pub or-none : (b : Bool) → (b || false) ≡ b

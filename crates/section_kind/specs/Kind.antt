@@ -1,9 +1,7 @@
 -- The kinds of section that the flags of a section header allow.
-use Rattle.std.specs.Prelude.{ℕ, ◌/◌, ◌%◌, Bool, true, false, not, cond, ◌||◌, List, [], ◌∷◌, eqb}
+use Rattle.std.specs.Prelude.{ℕ, ◌/◌, ◌%◌, Bool, false, not, cond, ◌||◌, List, [], ◌∷◌, eqb, None, Option, Some}
 use Rattle.section_kind.specs.declared.SectionKind.{SectionKind}
 use Rattle.section_kind.specs.declared.SectionKind.TheVariants.{Deleted, Pad, Dwarf, Text, Data, Bss, Except, Info, Tdata, Tbss, Loader, Debug, Typchk, Ovrflo}
-use Rattle.section_kind.specs.declared.KindAnswer.{KindAnswer}
-use Rattle.section_kind.specs.declared.KindAnswer.TheVariants.{Allowed, NotAllowed}
 
 -- the flags of each kind, the high half 0; a deleted section's are all ones
 abbrev pub flags_of : SectionKind → ℕ
@@ -27,18 +25,18 @@ abbrev pub kinds : List SectionKind
 kinds = Pad ∷ Dwarf ∷ Text ∷ Data ∷ Bss ∷ Except ∷ Info ∷ Tdata ∷ Tbss ∷ Loader ∷ Debug ∷ Typchk ∷ Ovrflo ∷ []
 
 -- the kind of a list that has these low 16 bits
-abbrev pub kind_in : ℕ → List SectionKind → KindAnswer
-kind_in low [] = NotAllowed
-kind_in low (k ∷ ks) = cond (eqb (flags_of k) low) (Allowed k) (kind_in low ks)
+abbrev pub kind_in : ℕ → List SectionKind → Option SectionKind
+kind_in low [] = None
+kind_in low (k ∷ ks) = cond (eqb (flags_of k) low) (Some k) (kind_in low ks)
 
-unfoldable pub listed_kind : ℕ → KindAnswer
+unfoldable pub listed_kind : ℕ → Option SectionKind
 listed_kind low = kind_in low kinds
 
 -- all ones: deleted. Otherwise the low 16 bits are looked up in the list, and kept where the high 16 are 0 or the kind is dwarf
-unfoldable pub kind_of : ℕ → KindAnswer
+unfoldable pub kind_of : ℕ → Option SectionKind
 kind_of flags =
-    cond (eqb flags (flags_of Deleted)) (Allowed Deleted)
-    (cond (eqb (flags / 65536) 0 || eqb (flags % 65536) (flags_of Dwarf)) (listed_kind (flags % 65536)) NotAllowed)
+    cond (eqb flags (flags_of Deleted)) (Some Deleted)
+    (cond (eqb (flags / 65536) 0 || eqb (flags % 65536) (flags_of Dwarf)) (listed_kind (flags % 65536)) None)
 
 -- k is one of some kinds
 abbrev pub is_one_of : SectionKind → List SectionKind → Bool

@@ -23,12 +23,6 @@ pub enum SectionKind {
     Ovrflo,
 }
 
-#[derive(Clone, Copy)]
-pub enum KindAnswer {
-    Allowed(SectionKind),
-    NotAllowed,
-}
-
 impl SectionKind {
     // The low 16 bits of the flags of each allowed kind.
     pub const PAD: u64 = 0x0008;
@@ -100,18 +94,13 @@ impl SectionKind {
     }
 
     // The kind of the list that has these low 16 bits.
-    fn listed(low: u64) -> KindAnswer
+    fn listed(low: u64) -> Option<SectionKind>
         ensures { result ≡ listed_kind low }
     {
-        let mut i = 0;
-        while i < 13 {
-            let k = SectionKind::LIST[i];
-            if k.flags() == low {
-                return KindAnswer::Allowed(k);
-            }
-            i += 1;
+        match SectionKind::LIST.iter().find(|k| k.flags() == low) {
+            Some(k) => Some(*k),
+            None => None,
         }
-        KindAnswer::NotAllowed
     }
 
     // The high 16 bits are 0, for dwarf not looked at.
@@ -125,17 +114,17 @@ impl SectionKind {
     }
 
     // What a section header's flags are decided to be.
-    pub fn of_flags(flags: u64) -> KindAnswer
+    pub fn of_flags(flags: u64) -> Option<SectionKind>
         ensures { result ≡ kind_of flags }
     {
         if flags == SectionKind::DELETED {
-            return KindAnswer::Allowed(SectionKind::Deleted);
+            return Some(SectionKind::Deleted);
         }
         let low = flags % 65536;
         if SectionKind::is_high_half_good(flags / 65536, low) {
             return SectionKind::listed(low);
         }
-        KindAnswer::NotAllowed
+        None
     }
 
     // Whether sections of this kind may have raw data in the file. A deleted section is not examined, so it has none.

@@ -15,15 +15,11 @@ use Rattle.format.specs.declared.SectionLayout.{SectionLayout}
 use Rattle.format.proofs.Layouts.{FieldInside, section-inside}
 use Rattle.format.proofs.Ranges.{text-inside}
 use Rattle.refusal.specs.declared.Refusal.{Refusal}
-use Rattle.refusal.specs.declared.RangeAnswer.TheVariants as range
-use Rattle.refusal.specs.declared.Verdict.{Verdict}
-use Rattle.refusal.specs.declared.Verdict.TheVariants as verdict
 use Rattle.refusal.specs.Order.{◌or_else◌, by_verdict}
 use Rattle.refusal.specs.Part.{Within}
 use Rattle.offset.proofs.Report.{range_inside}
 use Rattle.refusal.proofs.Order.{accepted-first, accepted-rest, accepted-test}
 use Rattle.offset.specs.Report.{report_of_range, InFile}
-use Rattle.section.specs.declared.SectionAnswer.TheVariants.{Found, Refused}
 use Rattle.header.specs.declared.Opened.{Opened}
 use Rattle.file_header.specs.Header.{section_start}
 use Rattle.file_tables.specs.Tables.{blank_section}
@@ -32,13 +28,15 @@ use Rattle.section_lookup.specs.Lookup.{number_check, lookup_check, section_at, 
 use Rattle.file_header.proofs.Fields.{section-whole}
 use Rattle.header.specs.Inside.{Inside}
 use Rattle.header.proofs.Accepted.{opened_inside}
+use Rattle.std.specs.Prelude.{Err, Ok}
+use Rattle.refusal.specs.Verdict.{Verdict}
 
 -- the number of a section that is there
-number_in : (count : ℕ) (n : SectionNumber) → number_check count n ≡ verdict.Accepted → (eqb n.0 0 || ltb count n.0) ≡ false
+number_in : (count : ℕ) (n : SectionNumber) → number_check count n ≡ Ok tt → (eqb n.0 0 || ltb count n.0) ≡ false
 unfolding number_check
 number_in count n e = accepted-test (eqb n.0 0 || ltb count n.0) _ e
 
-pub number-known : (count : ℕ) (n : SectionNumber) → number_check count n ≡ verdict.Accepted → (0 < n.0) × (n.0 ≤ count)
+pub number-known : (count : ℕ) (n : SectionNumber) → number_check count n ≡ Ok tt → (0 < n.0) × (n.0 ≤ count)
 number-known count n e = known (ℕ_discrete n.0 0) (number_in count n e)
   where
     known : Dec (n.0 ≡ 0) → (eqb n.0 0 || ltb count n.0) ≡ false → (0 < n.0) × (n.0 ≤ count)
@@ -55,8 +53,8 @@ module _ (file : List ℕ) (n : SectionNumber) where
   unfolding lookup_check
   looked-up e k = rw e at k
 
-  module _ (e : lookup_check file n ≡ verdict.Accepted) where
-    accepted : (open_of file).verdict ≡ verdict.Accepted
+  module _ (e : lookup_check file n ≡ Ok tt) where
+    accepted : (open_of file).verdict ≡ Ok tt
     accepted = unfold lookup_check in accepted-first (open_of file).verdict _ e
 
     pub inside : Inside file (open_of file).summary
@@ -74,27 +72,27 @@ module _ (file : List ℕ) (n : SectionNumber) where
     name-whole i h q a b = rw (b, a, q) (section-inside (open_of file).summary.format (section_start (open_of file).summary.format (open_of file).summary.opthdr i) (length file) refl (header-whole i h)).name
 
   -- the answers by that verdict
-  pub section-refused : {v : Verdict} (x : Refusal) → v ≡ lookup_check file n → v ≡ verdict.Refused x → Refused x ≡ section_at file n
+  pub section-refused : {v : Verdict} (x : Refusal) → v ≡ lookup_check file n → v ≡ Err x → Err x ≡ section_at file n
   unfolding section_at
   section-refused x e k = rw (← e, k)
 
-  pub section-found : {o : Opened} {v : Verdict} → o ≡ open_of file → v ≡ lookup_check file n → v ≡ verdict.Accepted → Found (get_or o.summary.sections (n.0 - 1) blank_section) ≡ section_at file n
+  pub section-found : {o : Opened} {v : Verdict} → o ≡ open_of file → v ≡ lookup_check file n → v ≡ Ok tt → Ok (get_or o.summary.sections (n.0 - 1) blank_section) ≡ section_at file n
   unfolding section_at
   section-found q e k = rw (q, ← e, k)
 
-  pub name-refused : {v : Verdict} (x : Refusal) → v ≡ lookup_check file n → v ≡ verdict.Refused x → range.Refused x ≡ section_name_at file n
+  pub name-refused : {v : Verdict} (x : Refusal) → v ≡ lookup_check file n → v ≡ Err x → Err x ≡ section_name_at file n
   unfolding section_name_at
   name-refused x e k = rw (← e, k)
 
-  pub name-found : {v : Verdict} {r : FileRange} → v ≡ lookup_check file n → v ≡ verdict.Accepted → r ≡ name_of file (open_of file).summary n → range.Found r ≡ section_name_at file n
+  pub name-found : {v : Verdict} {r : FileRange} → v ≡ lookup_check file n → v ≡ Ok tt → r ≡ name_of file (open_of file).summary n → Ok r ≡ section_name_at file n
   unfolding section_name_at
   name-found e k q = rw (q, ← e, k)
 
   -- the name lies in the file
-  name_in_lem : (v : Verdict) → lookup_check file n ≡ v → Within (length file) (by_verdict v (range.Found (name_of file (open_of file).summary n)) range.Refused)
+  name_in_lem : (v : Verdict) → lookup_check file n ≡ v → Within (length file) (by_verdict v (Ok (name_of file (open_of file).summary n)) Err)
   unfolding name_of
-  name_in_lem (verdict.Refused x) e = tt
-  name_in_lem verdict.Accepted e =
+  name_in_lem (Err x) e = tt
+  name_in_lem (Ok tt) e =
       let k = known e in
       text-inside _ _ file (name-whole e (n.0 - 1) (omega arith) refl refl refl)
 

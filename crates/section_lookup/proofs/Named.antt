@@ -1,6 +1,6 @@
 -- What a section look-up's refusals name is there. Assumes nothing.
 use Prim.Native.Nat.{ℕ}
-use mathlib.Core.Path.{◌≡◌, refl}
+use mathlib.Core.Path.{refl}
 use mathlib.Core.Bool.{◌||◌}
 use mathlib.Core.List.{List}
 use lib.Dec.{eqb, ltb}

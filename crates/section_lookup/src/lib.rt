@@ -7,9 +7,9 @@ ghost use Rattle.offset.specs.Report.{report_of_range};
 ghost use Rattle.refusal.specs.Part.{range_bytes};
 ghost use Rattle.section_lookup.specs.Lookup.{number_check, section_at, section_report, report_of_section, section_name_at};
 
-use format::SectionNumber;
-use refusal::{Head, IndexItem, RangeAnswer, Refusal, Verdict};
-use section::SectionAnswer;
+use format::{FileRange, SectionNumber};
+use refusal::{Head, IndexItem, Refusal};
+use section::Section;
 
 // `flag` is the low 16 bits of the section's flags, `raw` 1 where raw data exists. The numbers of the two tables are the
 // header's own: a count that stands in an overflow header is not looked up.
@@ -30,59 +30,49 @@ pub struct SectionReport {
 }
 
 // Opening's refusal, or INDEX where the file has no section `n`.
-pub fn check_number(v: Verdict, count: u64, n: SectionNumber) -> Verdict
+pub fn check_number(v: Result<(), Refusal>, count: u64, n: SectionNumber) -> Result<(), Refusal>
     ensures { result ≡ (v or_else number_check count n) }
 {
-    if refusal::refuses(v) {
+    if v.is_err() {
         return v;
     }
     if n.0 == 0 {
-        return Verdict::Refused(Refusal::Index(IndexItem::NoSection(n)));
+        return Err(Refusal::Index(IndexItem::NoSection(n)));
     }
     if count < n.0 {
-        return Verdict::Refused(Refusal::Index(IndexItem::NoSection(n)));
+        return Err(Refusal::Index(IndexItem::NoSection(n)));
     }
-    Verdict::Accepted
+    Ok(())
 }
 
 // The record of section `n`.
-pub fn section_at(file: &[u8], n: SectionNumber) -> SectionAnswer
+pub fn section_at(file: &[u8], n: SectionNumber) -> Result<Section, Refusal>
     ensures cause { result ≡ section_at file.now n }
     ensures report { report_of_section file.now result ≡ section_report file.now n }
 {
     let o = header::open(file);
     let s = o.summary;
     let opened = o.verdict;
-    let v = check_number(opened, s.count, n);
-    match v {
-        Verdict::Refused(x) => SectionAnswer::Refused(x),
-        Verdict::Accepted => {
-            let i = (n.0 - 1) as usize;
-            let section = s.sections[i];
-            SectionAnswer::Found(section)
-        }
-    }
+    check_number(opened, s.count, n)?;
+    let i = (n.0 - 1) as usize;
+    let section = s.sections[i];
+    Ok(section)
 }
 
 // Where the name of section `n` lies.
-pub fn section_name_range(file: &[u8], n: SectionNumber) -> RangeAnswer
+pub fn section_name_range(file: &[u8], n: SectionNumber) -> Result<FileRange, Refusal>
     ensures cause { result ≡ section_name_at file.now n }
     ensures report { report_of_range file.now result ≡ report_of_range file.now (section_name_at file.now n) }
 {
     let o = header::open(file);
     let s = o.summary;
     let opened = o.verdict;
-    let v = check_number(opened, s.count, n);
-    match v {
-        Verdict::Refused(x) => RangeAnswer::Refused(x),
-        Verdict::Accepted => {
-            let f = s.format;
-            let l = format::section_layout(f);
-            let name = l.name;
-            let base = file_header::section_start(f, s.opthdr, n.0 - 1) as usize;
-            RangeAnswer::Found(format::text_in(file, base, name))
-        }
-    }
+    check_number(opened, s.count, n)?;
+    let f = s.format;
+    let l = format::section_layout(f);
+    let name = l.name;
+    let base = file_header::section_start(f, s.opthdr, n.0 - 1) as usize;
+    Ok(format::text_in(file, base, name))
 }
 
 // The name of section `n`: the very bytes of the file, none on a refusal.
@@ -93,11 +83,11 @@ pub fn section_name<'a>(file: &'a [u8], n: SectionNumber) -> &'a [u8]
     refusal::part_of(file, a)
 }
 
-pub fn report_section(file: &[u8], a: SectionAnswer) -> SectionReport
+pub fn report_section(file: &[u8], a: Result<Section, Refusal>) -> SectionReport
     ensures { result ≡ report_of_section file.now a }
 {
     match a {
-        SectionAnswer::Refused(x) => SectionReport {
+        Err(x) => SectionReport {
             head: offset::refusal_head(file, x),
             paddr: 0,
             vaddr: 0,
@@ -110,7 +100,7 @@ pub fn report_section(file: &[u8], a: SectionAnswer) -> SectionReport
             lnnoptr: 0,
             nlnno: 0,
         },
-        SectionAnswer::Found(s) => {
+        Ok(s) => {
             let paddr = s.paddr;
             let vaddr = s.vaddr;
             let scnptr = s.scnptr;

@@ -1,13 +1,13 @@
 -- The laws of the cells. Assumes nothing.
 use mathlib.Core.Path.{◌≡◌, refl, sym, ◌∙◌, ap, ap₂, subst}
-use mathlib.Core.Logic.{◌⊎◌, inl, inr, ⊎_elim}
-use mathlib.Core.Bool.{Bool, true, false, not}
+use mathlib.Core.Logic.{◌⊎◌, inl, inr}
+use mathlib.Core.Bool.{Bool, true, false}
 use mathlib.Core.List.{List}
 use Prim.Native.Nat.{ℕ, zero, suc, ◌+◌, ◌-◌, ◌≤◌, ◌<◌}
 use native.Mathlib.Decide.{dec_lt, dec_le, ℕ_discrete}
 use native.Mathlib.Numerals.{add-one}
 use native.Mathlib.Omega.{arith}
-use lib.ListN.{length, get_or, set, length-set, get_or-eq_default}
+use lib.ListN.{length, get_or, set, get_or-eq_default}
 use lib.Seq.{get_or-set_same, get_or-set_other}
 use borrow.Author.Tests.{le-leb, lt-leb, lt-ltb, le-ltb}
 use Rattle.field_kind.specs.declared.FieldKind.{FieldKind}
@@ -15,108 +15,7 @@ use Rattle.field_kind.specs.declared.FieldKind.TheVariants.{Nothing, Four, Eight
 use Rattle.field_kind.specs.declared.ObjectField.{ObjectField}
 use Rattle.field_kind.specs.Field.{bytes_in}
 use Rattle.section_overlap.specs.Overlap.{Meets, First}
-use Rattle.section_overlap.specs.Cells.{code, Taken, Stored, ByteOut, Marked, Free, MarkOut, cover, Hit, CellsAre, StepOut, Untouched, LowerOut, PassOut, NoHitAt, HitSomewhere, SweepOut}
-use Rattle.section_overlap.proofs.Rule.{no_true, no_false}
-
-module _ (base k v : ℕ) (c : List ℕ) where
-  pub byte-below : k < base → ByteOut base k v c c false
-  byte-below h = record {
-    size = refl;
-    hit = no_true;
-    miss = λ e. (λ t. absurd (omega (arith, t.low)), record { there = λ x l p. absurd (omega arith); else = λ x l p. refl });
-  }
-
-  pub byte_past : base ≤ k → length c ≤ k - base → ByteOut base k v c c false
-  byte_past h o = record {
-    size = refl;
-    hit = no_true;
-    miss = λ e. (λ t. absurd (omega (arith, t.high)), record { there = λ x l p. absurd (omega arith); else = λ x l p. refl });
-  }
-
-  pub byte-free : base ≤ k → k - base < length c → get_or c (k - base) 0 ≡ 0 → ByteOut base k v c (set c (k - base) v) false
-  byte-free h o z = record {
-    size = length-set c (k - base) v;
-    hit = no_true;
-    miss = λ e. (
-      λ t. t.some z,
-      record {
-        there = λ x l p. let q : x ≡ k - base = omega arith in ap (λ (j : ℕ). get_or (set c (k - base) v) j 0) q ∙ get_or-set_same c (k - base) v 0 o;
-        else = λ x l p. get_or-set_other c (k - base) x v 0 (λ q. p (omega arith));
-      },
-    );
-  }
-
-  pub byte-same : base ≤ k → k - base < length c → get_or c (k - base) 0 ≡ v → ByteOut base k v c c false
-  byte-same h o z = record {
-    size = refl;
-    hit = no_true;
-    miss = λ e. (
-      λ t. t.other z,
-      record {
-        there = λ x l p. let q : x ≡ k - base = omega arith in ap (λ (j : ℕ). get_or c j 0) q ∙ z;
-        else = λ x l p. refl;
-      },
-    );
-  }
-
-  pub byte-taken : base ≤ k → k - base < length c → (get_or c (k - base) 0 ≡ 0 → ⊥) → (get_or c (k - base) 0 ≡ v → ⊥) → ByteOut base k v c c true
-  byte-taken h o z d = record { size = refl; hit = λ e. record { low = h; high = o; some = z; other = d }; miss = no_false }
-
-module _ (base offset : ℕ) (kind : FieldKind) (c₀ : List ℕ) where
-  pub mark-none : Marked base offset kind 0 c₀ c₀ × Free base offset kind 0 c₀
-  mark-none = (record { size = refl; inside = λ x l a b. absurd (omega arith); outside = λ x l h. refl }, λ q h t. absurd (omega arith))
-
-  -- the next byte is as it was
-  next-same : (p : ℕ) (c : List ℕ) → Marked base offset kind p c₀ c → base ≤ offset + p → offset + p - base < length c₀
-      → get_or c (offset + p - base) 0 ≡ get_or c₀ (offset + p - base) 0
-  next-same p c m h l = m.outside (offset + p - base) l (inr (omega arith))
-
-  taken_back : (p : ℕ) (c : List ℕ) (v : ℕ) → Marked base offset kind p c₀ c → Taken c base (offset + p) v → Taken c₀ base (offset + p) v
-  taken_back p c v m t =
-      let l : offset + p - base < length c₀ = omega (arith, t.high, m.size) in
-      let e = next-same p c m t.low l in
-      record { low = t.low; high = l; some = λ z. t.some (e ∙ z); other = λ z. t.other (e ∙ z) }
-
-  taken-on : (p : ℕ) (c : List ℕ) (v : ℕ) → Marked base offset kind p c₀ c → Taken c₀ base (offset + p) v → Taken c base (offset + p) v
-  taken-on p c v m t =
-      let e = next-same p c m t.low t.high in
-      record { low = t.low; high = omega (arith, t.high, m.size); some = λ z. t.some (sym e ∙ z); other = λ z. t.other (sym e ∙ z) }
-
-  pub mark-turn : (p : ℕ) (c c' : List ℕ) → Marked base offset kind p c₀ c → Free base offset kind p c₀ → ByteOut base (offset + p) (code kind p) c c' false
-      → Marked base offset kind (p + 1) c₀ c' × Free base offset kind (p + 1) c₀
-  mark-turn p c c' m f b =
-      (record { size = b.size ∙ m.size; inside = ins; outside = out }, free)
-    where
-      st : Stored base (offset + p) (code kind p) c c'
-      st = (b.miss refl).1
-
-      ins : (x : ℕ) → x < length c₀ → offset ≤ base + x → base + x < offset + (p + 1) → get_or c' x 0 ≡ code kind (base + x - offset)
-      ins x l a h = go (ℕ_discrete (base + x) (offset + p))
-        where
-          go : Dec (base + x ≡ offset + p) → get_or c' x 0 ≡ code kind (base + x - offset)
-          go (yes e) =
-              let q : p ≡ base + x - offset = omega arith in
-              st.there x (omega (arith, m.size)) e ∙ ap (code kind) q
-          go (no n) = st.else x (omega (arith, m.size)) n ∙ m.inside x l a (omega arith)
-
-      out : (x : ℕ) → x < length c₀ → (base + x < offset) ⊎ (offset + (p + 1) ≤ base + x) → get_or c' x 0 ≡ get_or c₀ x 0
-      out x l h =
-          st.else x (omega (arith, m.size)) (λ e. ⊎_elim (λ a. omega arith) (λ a. omega arith) h)
-          ∙ m.outside x l (⊎_elim (λ a. inl a) (λ a. inr (omega arith)) h)
-
-      free : Free base offset kind (p + 1) c₀
-      free q h t = go (ℕ_discrete q p)
-        where
-          go : Dec (q ≡ p) → ⊥
-          go (yes e) = (b.miss refl).0 (taken-on p c (code kind p) m (subst (λ (j : ℕ). Taken c₀ base (offset + j) (code kind j)) e t))
-          go (no n) = f q (omega arith) t
-
-  pub mark-hit : (p : ℕ) (c c' : List ℕ) → p < bytes_in kind → Marked base offset kind p c₀ c → ByteOut base (offset + p) (code kind p) c c' true
-      → MarkOut base offset kind c₀ c' true
-  mark-hit p c c' h m b = record { size = b.size ∙ m.size; hit = λ e. (p, h, taken_back p c (code kind p) m (b.hit refl)); miss = no_false }
-
-  mark-end : (c : List ℕ) → Marked base offset kind (bytes_in kind) c₀ c → Free base offset kind (bytes_in kind) c₀ → MarkOut base offset kind c₀ c false
-  mark-end c m f = record { size = m.size; hit = no_true; miss = λ e. (f, m) }
+use Rattle.section_overlap.specs.Cells.{code, Marked, MarkOut, cover, Hit, CellsAre, StepOut, Untouched, LowerOut, PassOut, NoHitAt, HitSomewhere, SweepOut}
 
 -- ---- entries
 
@@ -329,14 +228,6 @@ zero-end c h x = go (dec_lt x (length c))
     go : Dec (x < length c) → get_or c x 0 ≡ 0
     go (yes l) = h x l
     go (no l) = get_or-eq_default c 0 (omega arith)
-
-pub byte-as : {base k v v' : ℕ} {c c' : List ℕ} {r r' : Bool} → v ≡ v' → r ≡ r' → ByteOut base k v c c' r → ByteOut base k v' c c' r'
-byte-as {base} {k} {v} {v'} {c} {c'} {r} {r'} p q b = subst (λ (x : Bool). ByteOut base k v' c c' x) q (subst (λ (x : ℕ). ByteOut base k x c c' r) p b)
-
-pub mark-last : (base offset : ℕ) (kind : FieldKind) (c₀ c : List ℕ) (p : ℕ) → p ≡ bytes_in kind → Marked base offset kind p c₀ c → Free base offset kind p c₀
-    → MarkOut base offset kind c₀ c false
-mark-last base offset kind c₀ c p e m f =
-    mark-end base offset kind c₀ c (subst (λ (x : ℕ). Marked base offset kind x c₀ c) e m) (subst (λ (x : ℕ). Free base offset kind x c₀) e f)
 
 pub cells-none : (r : ℕ → ObjectField) (base : ℕ) (c : List ℕ) → ((x : ℕ) → get_or c x 0 ≡ 0) → CellsAre r base 0 c
 unfolding cover

@@ -1,10 +1,9 @@
 -- Laws of fields in ascending order. Assumes nothing.
-use mathlib.Core.Path.{◌≡◌, refl, sym, ◌∙◌, ap, subst}
-use mathlib.Core.Logic.{◌⊎◌, inl, inr, ⊎_elim}
+use mathlib.Core.Path.{◌≡◌, sym, ◌∙◌, ap, subst}
+use mathlib.Core.Logic.{◌⊎◌, inl, inr}
 use Prim.Native.Nat.{ℕ, ◌+◌, ◌≤◌, ◌<◌}
 use native.Mathlib.Decide.{ℕ_discrete}
 use native.Mathlib.Omega.{arith}
-use Rattle.field_kind.specs.declared.FieldKind.{FieldKind}
 use Rattle.field_kind.specs.declared.ObjectField.{ObjectField}
 use Rattle.field_kind.specs.Field.{bytes_in}
 use Rattle.section_overlap.specs.Overlap.{Meets, First}
@@ -66,14 +65,6 @@ module _ (r : ℕ → ObjectField) (i : ℕ) where
         go : (j : ℕ) → j < i + 1 → Dec (j ≡ i) → (bytes_in (r j).kind ≡ 0) ⊎ (r j ≡ r i) ⊎ ((r j).offset + bytes_in (r j).kind ≤ (r i).offset)
         go j k (yes e) = inr (inl (ap r e))
         go j k (no d) = by j (a.earlier j (omega arith)) f
-
--- before the first entry
-pub none_yet : (r : ℕ → ObjectField) (last : ObjectField) → Ascending r 0 last
-none_yet r last =
-    record {
-      none = record { within = omega arith; before = λ j l. absurd (omega arith); here = λ l. absurd (omega arith) };
-      earlier = λ j l. absurd (omega arith);
-    }
 
 -- past the last entry
 pub none-overlap : (r : ℕ → ObjectField) (i n : ℕ) (last : ObjectField) → i ≤ n → n ≤ i → Ascending r i last → First r n n

@@ -1,5 +1,5 @@
 -- Laws of the entries of a section that are good by themselves. Assumes nothing.
-use mathlib.Core.Path.{◌≡◌, refl, sym, ◌∙◌, ap}
+use mathlib.Core.Path.{◌≡◌, refl, ap}
 use mathlib.Core.Bool.{true}
 use mathlib.Core.List.{List}
 use Prim.Native.Nat.{ℕ, ◌+◌, ◌≤◌, ◌<◌}
@@ -13,12 +13,6 @@ use Rattle.section_relocation.specs.declared.ObjectSection.{ObjectSection}
 use Rattle.section_relocation.specs.Entry.{has_bytes, field_in}
 use Rattle.section_relocation.proofs.Entries.{field-in-held}
 use Rattle.section_overlap.specs.Overlap.{Readable}
-
-pub bytes-few : (b : FieldKind) → bytes_in b ≤ 8
-bytes-few Nothing = omega arith
-bytes-few Four = omega arith
-bytes-few Eight = omega arith
-bytes-few Branch = omega arith
 
 bytes-some : (b : FieldKind) → 0 < bytes_in b → has_bytes b ≡ true
 bytes-some Nothing h = absurd (omega arith)
@@ -35,6 +29,3 @@ module _ (file : List ℕ) (f : Format) (s : ObjectSection) where
 
   pub offset-small : (n i : ℕ) (e : ObjectField) → Readable file f s n → i < n → e ≡ field_in file f s i → e.offset < 4294967296
   offset-small n i e v l q = omega (arith, room n i v l, v.ready.placed, ap (λ (x : ObjectField). x.offset) q)
-
-  pub readable-less : (k n : ℕ) → k ≤ n → Readable file f s n → Readable file f s k
-  readable-less k n h v = record { ready = v.ready; few = omega (arith, v.few); held = λ i l. v.held i (omega arith) }

@@ -81,15 +81,13 @@ pub fn are_ascending(file: &[u8], f: Format, s: ObjectSection, n: u64) -> bool
         offset: 0,
         kind: FieldKind::Nothing,
     };
-    let mut i = 0;
-    while i < n {
+    for i in 0..n {
         let e = section_relocation::field_in(file, f, s, i);
         let a = step_order(last, e);
         if !a.follows {
             return false;
         }
         last = a.last;
-        i += 1;
     }
     true
 }
@@ -136,13 +134,11 @@ fn mark(cells: &mut [u8], base: u64, offset: u64, kind: FieldKind) -> bool
     ensures { MarkOut base offset kind cells.old cells.new result }
 {
     let w = field_kind::bytes_in(kind);
-    let mut place = 0;
-    while place < w {
+    for place in 0..w {
         let v = code_of(kind, place);
         if mark_byte(cells, base, offset + place, v) {
             return true;
         }
-        place += 1;
     }
     false
 }
@@ -151,11 +147,7 @@ fn mark(cells: &mut [u8], base: u64, offset: u64, kind: FieldKind) -> bool
 fn clear(cells: &mut [u8])
     ensures { Zeros cells.old cells.new }
 {
-    let mut i = 0;
-    while i < cells.len() {
-        cells[i] = 0;
-        i += 1;
-    }
+    cells.fill(0);
 }
 
 // Marks a field: true where it meets another in the window.
@@ -204,14 +196,12 @@ fn pass(
     clear(cells);
     let end = base + cells.len() as u64;
     let mut next = limit;
-    let mut i = 0;
-    while i < n {
+    for i in 0..n {
         let e = section_relocation::field_in(file, f, s, i);
         if step(e, base, cells) {
             return PassAnswer { first: i, next };
         }
         next = lower(e, end, next);
-        i += 1;
     }
     PassAnswer { first: n, next }
 }

@@ -1,13 +1,12 @@
 -- Laws of one entry of a section's own relocation table. Assumes nothing.
-use Prim.Native.Nat.{ℕ, suc, ◌+◌, ◌-◌, ◌*◌, ◌%◌, ◌≤◌, ◌<◌}
-use mathlib.Core.Path.{◌≡◌, refl, sym, ◌∙◌, ap}
+use Prim.Native.Nat.{ℕ, ◌+◌, ◌-◌, ◌≤◌, ◌<◌}
+use mathlib.Core.Path.{◌≡◌, refl, sym, ◌∙◌}
 use mathlib.Core.Bool.{Bool, true, false, not, cond, ◌&&◌}
 use mathlib.Core.List.{List}
 use native.Mathlib.Decide.{dec_le}
 use native.Mathlib.Omega.{arith}
-use lib.Dec.{eqb, leb}
-use lib.ListN.{length}
-use borrow.Author.Tests.{lt-leb, le-leb, leb-true, eq-eqb, ne_eqb}
+use lib.Dec.{leb}
+use borrow.Author.Tests.{lt-leb, le-leb, leb-true, ne_eqb}
 use Rattle.word.specs.Test.{past}
 use Rattle.word.proofs.Test.{past-yes, past-no, and_first, and_second}
 use Rattle.format.specs.declared.Format.{Format}
@@ -24,9 +23,8 @@ use Rattle.section_relocation.specs.declared.ObjectSection.{ObjectSection}
 use Rattle.section_relocation.specs.declared.EntryLayout.{EntryLayout}
 use Rattle.section_relocation.specs.declared.SectionEntry.{SectionEntry}
 use Rattle.section_relocation.specs.declared.Effect.{Effect}
-use Rattle.section_relocation.specs.declared.EffectAnswer.{EffectAnswer}
-use Rattle.section_relocation.specs.declared.EffectAnswer.TheVariants.{Known, Unknown}
-use Rattle.section_relocation.specs.Entry.{entry_layout, entry_in, TableReady, known, plain_effect, effect_of, effect_or, has_bytes, is_inside, is_held_by, is_held, field_by, field_of, field_in}
+use Rattle.section_relocation.specs.Entry.{entry_layout, entry_in, known, plain_effect, effect_of, effect_or, has_bytes, is_inside, is_held_by, is_held, field_by, field_of, field_in}
+use Rattle.std.specs.Prelude.{None, Option, Some}
 
 -- ---- reading
 
@@ -51,12 +49,12 @@ unfolding plain_effect
 plain-four Xcoff32 bits a e = rw e refl
 plain-four Xcoff64 bits a e = rw e refl
 
-pub plain-none : (f : Format) (bits : ℕ) (a : AmountKind) → (bits ≡ 32 → ⊥) → (bits ≡ 64 → ⊥) → Unknown ≡ plain_effect f bits a
+pub plain-none : (f : Format) (bits : ℕ) (a : AmountKind) → (bits ≡ 32 → ⊥) → (bits ≡ 64 → ⊥) → None ≡ plain_effect f bits a
 unfolding plain_effect
 plain-none Xcoff32 bits a n m = rw (ne_eqb bits 32 n) refl
 plain-none Xcoff64 bits a n m = rw (ne_eqb bits 32 n, ne_eqb bits 64 m) refl
 
-pub plain-narrow : (f : Format) (bits : ℕ) (a : AmountKind) → f ≡ Xcoff32 → (bits ≡ 32 → ⊥) → Unknown ≡ plain_effect f bits a
+pub plain-narrow : (f : Format) (bits : ℕ) (a : AmountKind) → f ≡ Xcoff32 → (bits ≡ 32 → ⊥) → None ≡ plain_effect f bits a
 unfolding plain_effect
 plain-narrow f bits a e n = rw e (rw (ne_eqb bits 32 n) refl)
 
@@ -87,11 +85,11 @@ inside-known s at k h =
 
 -- ---- what is held
 
-pub held-unknown : (f : Format) (s : ObjectSection) (e : SectionEntry) {a : EffectAnswer} → a ≡ effect_of f e → a ≡ Unknown → false ≡ is_held f s e
+pub held-unknown : (f : Format) (s : ObjectSection) (e : SectionEntry) {a : Option Effect} → a ≡ effect_of f e → a ≡ None → false ≡ is_held f s e
 unfolding is_held
 held-unknown f s e p q = rw (← p) (rw q refl)
 
-pub held-known : (f : Format) (s : ObjectSection) (e : SectionEntry) {a : EffectAnswer} (x : Effect) → a ≡ effect_of f e → a ≡ Known x
+pub held-known : (f : Format) (s : ObjectSection) (e : SectionEntry) {a : Option Effect} (x : Effect) → a ≡ effect_of f e → a ≡ Some x
     → cond (has_bytes x.kind) (is_inside s e.address.0 x.kind) true ≡ is_held f s e
 unfolding is_held
 held-known f s e x p q = rw (← p) (rw q refl)
@@ -107,9 +105,9 @@ pub record FieldHeld (s : ObjectSection) (at : ℕ) (k : FieldKind) : Type 0 whe
   pub low : s.address.0 ≤ at
   pub high : at - s.address.0 + bytes_in k ≤ s.size
 
-held_by : (s : ObjectSection) (at : ℕ) (a : EffectAnswer) → is_held_by s at a ≡ true → has_bytes (effect_or a).kind ≡ true → FieldHeld s at (effect_or a).kind
-held_by s at Unknown h b = absurd (let z : ◌≡◌ {A = ℕ} 0 1 = cc in omega arith)
-held_by s at (Known x) h b = let p = inside-known s at x.kind (rw b at h) in record { low = p.0; high = p.1 }
+held_by : (s : ObjectSection) (at : ℕ) (a : Option Effect) → is_held_by s at a ≡ true → has_bytes (effect_or a).kind ≡ true → FieldHeld s at (effect_or a).kind
+held_by s at None h b = absurd (let z : ◌≡◌ {A = ℕ} 0 1 = cc in omega arith)
+held_by s at (Some x) h b = let p = inside-known s at x.kind (rw b at h) in record { low = p.0; high = p.1 }
 
 pub held-field : (f : Format) (s : ObjectSection) (e : SectionEntry) → is_held f s e ≡ true → {x : Effect} → x ≡ effect_or (effect_of f e) → {b : Bool} → b ≡ has_bytes x.kind → b ≡ true
     → FieldHeld s e.address.0 x.kind

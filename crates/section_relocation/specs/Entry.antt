@@ -1,5 +1,5 @@
 -- Entries of a section's own relocation table: what an entry holds, and the field that it changes.
-use Rattle.std.specs.Prelude.{ℕ, ◌+◌, ◌-◌, ◌*◌, ◌%◌, ◌≤◌, ◌<◌, Bool, true, false, cond, ◌&&◌, ◌||◌, List, eqb, leb, length}
+use Rattle.std.specs.Prelude.{ℕ, ◌+◌, ◌-◌, ◌*◌, ◌%◌, ◌≤◌, ◌<◌, Bool, true, false, cond, ◌&&◌, ◌||◌, List, eqb, leb, length, None, Option, Some}
 use Rattle.word.specs.Number.{field, field_in as number_in}
 use Rattle.word.specs.declared.Width.TheVariants.{One, Four, Eight}
 use Rattle.format.specs.declared.Format.{Format}
@@ -20,8 +20,6 @@ use Rattle.section_relocation.specs.declared.SectionEntry.{SectionEntry}
 use Rattle.section_relocation.specs.declared.EntryClass.{EntryClass}
 use Rattle.section_relocation.specs.declared.EntryClass.TheVariants.{Adds, Subtracts, AbsoluteBranch, RelativeBranch, Keeps, Other}
 use Rattle.section_relocation.specs.declared.Effect.{Effect}
-use Rattle.section_relocation.specs.declared.EffectAnswer.{EffectAnswer}
-use Rattle.section_relocation.specs.declared.EffectAnswer.TheVariants.{Known, Unknown}
 
 -- ---- what an entry holds
 
@@ -54,34 +52,34 @@ class_of rtype =
     (cond (eqb rtype 0x0A || eqb rtype 0x1A) RelativeBranch
     (cond (eqb rtype 0x0F) Keeps Other))))
 
-abbrev pub known : FieldKind → AmountKind → EffectAnswer
-known k a = Known (record { kind = k; amount = a })
+abbrev pub known : FieldKind → AmountKind → Option Effect
+known k a = Some (record { kind = k; amount = a })
 
 -- a width of 32, in XCOFF64 also 64
-unfoldable pub plain_effect : Format → ℕ → AmountKind → EffectAnswer
-plain_effect Xcoff32 bits a = cond (eqb bits 32) (known kind.Four a) Unknown
-plain_effect Xcoff64 bits a = cond (eqb bits 32) (known kind.Four a) (cond (eqb bits 64) (known kind.Eight a) Unknown)
+unfoldable pub plain_effect : Format → ℕ → AmountKind → Option Effect
+plain_effect Xcoff32 bits a = cond (eqb bits 32) (known kind.Four a) None
+plain_effect Xcoff64 bits a = cond (eqb bits 32) (known kind.Four a) (cond (eqb bits 64) (known kind.Eight a) None)
 
 -- "A branch entry has width 26"
-unfoldable pub branch_effect : ℕ → AmountKind → EffectAnswer
-branch_effect bits a = cond (eqb bits 26) (known kind.Branch a) Unknown
+unfoldable pub branch_effect : ℕ → AmountKind → Option Effect
+branch_effect bits a = cond (eqb bits 26) (known kind.Branch a) None
 
-unfoldable pub effect_by : Format → ℕ → EntryClass → EffectAnswer
+unfoldable pub effect_by : Format → ℕ → EntryClass → Option Effect
 effect_by f bits Adds = plain_effect f bits Plus
 effect_by f bits Subtracts = plain_effect f bits Minus
 effect_by f bits AbsoluteBranch = branch_effect bits Plus
 effect_by f bits RelativeBranch = branch_effect bits Relative
 effect_by f bits Keeps = known kind.Nothing Plus
-effect_by f bits Other = Unknown
+effect_by f bits Other = None
 
 -- the size's low six bits plus one are the width; its two top bits are ignored
-unfoldable pub effect_of : Format → SectionEntry → EffectAnswer
+unfoldable pub effect_of : Format → SectionEntry → Option Effect
 effect_of f e = effect_by f (e.rsize % 64 + 1) (class_of e.rtype)
 
 -- an entry that is not known does nothing: LREL refuses it
-abbrev pub effect_or : EffectAnswer → Effect
-effect_or (Known x) = x
-effect_or Unknown = record { kind = kind.Nothing; amount = Plus }
+abbrev pub effect_or : Option Effect → Effect
+effect_or (Some x) = x
+effect_or None = record { kind = kind.Nothing; amount = Plus }
 
 -- ---- its field
 
@@ -95,9 +93,9 @@ has_bytes kind.Branch = true
 unfoldable pub is_inside : ObjectSection → ℕ → FieldKind → Bool
 is_inside s at k = leb s.address.0 at && leb (at + bytes_in k) (s.address.0 + s.size)
 
-abbrev pub is_held_by : ObjectSection → ℕ → EffectAnswer → Bool
-is_held_by s at Unknown = false
-is_held_by s at (Known x) = cond (has_bytes x.kind) (is_inside s at x.kind) true
+abbrev pub is_held_by : ObjectSection → ℕ → Option Effect → Bool
+is_held_by s at None = false
+is_held_by s at (Some x) = cond (has_bytes x.kind) (is_inside s at x.kind) true
 
 -- an entry that is known, with its field inside the section; of type 0F no field is looked at
 unfoldable pub is_held : Format → ObjectSection → SectionEntry → Bool

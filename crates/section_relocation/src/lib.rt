@@ -11,7 +11,7 @@ use format::{FileOffset, Format, SectionNumber, SymbolIndex, VirtualAddress};
 use object_history::AmountKind;
 use refusal::SectionRelocation;
 use table_kind::TableKind;
-use word::Field;
+use word::{Field, Width};
 
 // A text or data section of an object file.
 #[derive(Clone, Copy)]
@@ -64,27 +64,21 @@ pub struct Effect {
     pub amount: AmountKind,
 }
 
-#[derive(Clone, Copy)]
-pub enum EffectAnswer {
-    Known(Effect),
-    Unknown,
-}
-
 fn entry_layout(f: Format) -> EntryLayout
     ensures { result ≡ entry_layout f }
 {
     match f {
         Format::Xcoff32 => EntryLayout {
-            address: word::four(0),
-            symbol: word::four(4),
-            rsize: word::one(8),
-            rtype: word::one(9),
+            address: Width::Four.at(0),
+            symbol: Width::Four.at(4),
+            rsize: Width::One.at(8),
+            rtype: Width::One.at(9),
         },
         Format::Xcoff64 => EntryLayout {
-            address: word::eight(0),
-            symbol: word::four(8),
-            rsize: word::one(12),
-            rtype: word::one(13),
+            address: Width::Eight.at(0),
+            symbol: Width::Four.at(8),
+            rsize: Width::One.at(12),
+            rtype: Width::One.at(13),
         },
     }
 }
@@ -134,40 +128,40 @@ fn class_of(rtype: u64) -> EntryClass
 }
 
 // A field of 32 bits, or in XCOFF64 of 64.
-fn plain_effect(f: Format, bits: u64, amount: AmountKind) -> EffectAnswer
+fn plain_effect(f: Format, bits: u64, amount: AmountKind) -> Option<Effect>
     ensures { result ≡ plain_effect f bits amount }
 {
     if bits == 32 {
-        return EffectAnswer::Known(Effect {
+        return Some(Effect {
             kind: FieldKind::Four,
             amount,
         });
     }
     if bits != 64 {
-        return EffectAnswer::Unknown;
+        return None;
     }
     match f {
-        Format::Xcoff32 => EffectAnswer::Unknown,
-        Format::Xcoff64 => EffectAnswer::Known(Effect {
+        Format::Xcoff32 => None,
+        Format::Xcoff64 => Some(Effect {
             kind: FieldKind::Eight,
             amount,
         }),
     }
 }
 
-fn branch_effect(bits: u64, amount: AmountKind) -> EffectAnswer
+fn branch_effect(bits: u64, amount: AmountKind) -> Option<Effect>
     ensures { result ≡ branch_effect bits amount }
 {
     if bits == 26 {
-        return EffectAnswer::Known(Effect {
+        return Some(Effect {
             kind: FieldKind::Branch,
             amount,
         });
     }
-    EffectAnswer::Unknown
+    None
 }
 
-fn effect_by(f: Format, bits: u64, class: EntryClass) -> EffectAnswer
+fn effect_by(f: Format, bits: u64, class: EntryClass) -> Option<Effect>
     ensures { result ≡ effect_by f bits class }
 {
     match class {
@@ -175,16 +169,16 @@ fn effect_by(f: Format, bits: u64, class: EntryClass) -> EffectAnswer
         EntryClass::Subtracts => plain_effect(f, bits, AmountKind::Minus),
         EntryClass::AbsoluteBranch => branch_effect(bits, AmountKind::Plus),
         EntryClass::RelativeBranch => branch_effect(bits, AmountKind::Relative),
-        EntryClass::Keeps => EffectAnswer::Known(Effect {
+        EntryClass::Keeps => Some(Effect {
             kind: FieldKind::Nothing,
             amount: AmountKind::Plus,
         }),
-        EntryClass::Other => EffectAnswer::Unknown,
+        EntryClass::Other => None,
     }
 }
 
 // What an entry does, or that its type or width is not known.
-pub fn effect_of(f: Format, e: SectionEntry) -> EffectAnswer
+pub fn effect_of(f: Format, e: SectionEntry) -> Option<Effect>
     ensures { result ≡ effect_of f e }
 {
     let class = class_of(e.rtype);
@@ -197,8 +191,8 @@ pub fn effect_or(f: Format, e: SectionEntry) -> Effect
 {
     let a = effect_of(f, e);
     match a {
-        EffectAnswer::Known(x) => x,
-        EffectAnswer::Unknown => Effect {
+        Some(x) => x,
+        None => Effect {
             kind: FieldKind::Nothing,
             amount: AmountKind::Plus,
         },
@@ -234,8 +228,8 @@ pub fn is_held(f: Format, s: ObjectSection, e: SectionEntry) -> bool
 {
     let a = effect_of(f, e);
     match a {
-        EffectAnswer::Unknown => false,
-        EffectAnswer::Known(x) => {
+        None => false,
+        Some(x) => {
             let k = x.kind;
             let at = e.address;
             if has_bytes(k) {

@@ -12,7 +12,6 @@ use Rattle.format.specs.declared.SectionNumber.{SectionNumber}
 use Rattle.refusal.specs.declared.BoundsItem.TheVariants as bounds
 use Rattle.refusal.specs.declared.Refusal.{Refusal}
 use Rattle.refusal.specs.declared.Refusal.TheVariants.{Bounds}
-use Rattle.refusal.specs.declared.Verdict.TheVariants.{Accepted}
 use Rattle.offset.specs.Named.{Named}
 use Rattle.offset.proofs.Named.{named_by}
 use Rattle.file_tables.specs.Tables.{blank_section}
@@ -21,14 +20,14 @@ use Rattle.header.specs.Open.{open_of}
 use Rattle.header.proofs.Named.{opens, section-there}
 use Rattle.table_kind.specs.declared.TableKind.{TableKind}
 use Rattle.table_kind.specs.Kind.{entry_length}
-use Rattle.section_tables.specs.declared.TableAnswer.{TableAnswer}
-use Rattle.section_tables.specs.declared.TableAnswer.TheVariants.{Found, Refused}
 use Rattle.section_tables.specs.Tables.{is_overflowed, overflow_of, table_at, table_by, table_of}
+use Rattle.std.specs.Prelude.{Err, Ok, Result}
+use Rattle.section_tables.specs.declared.SectionTable.{SectionTable}
 
 -- what holds of the refusal of a table
-abbrev pub TableCauses : (Refusal → Type 0) → TableAnswer → Type 0
-TableCauses P (Found t) = Unit {0}
-TableCauses P (Refused x) = P x
+abbrev pub TableCauses : (Refusal → Type 0) → Result SectionTable Refusal → Type 0
+TableCauses P (Ok t) = Unit {0}
+TableCauses P (Err x) = P x
 
 -- a table is refused for BOUNDS with its section alone
 module _ (P : Refusal → Type 0) (n : SectionNumber) (h : P (Bounds (bounds.SectionTable n))) (k : TableKind) where
@@ -45,7 +44,7 @@ module _ (P : Refusal → Type 0) (n : SectionNumber) (h : P (Bounds (bounds.Sec
       (λ _. at-cause y.format len _ _)
 
 -- request 4: of a section's table in an opened file
-pub table-named : (file : List ℕ) → (open_of file).verdict ≡ Accepted → (k : TableKind) (n : SectionNumber) → 0 < n.0 → n.0 ≤ (open_of file).summary.count
+pub table-named : (file : List ℕ) → (open_of file).verdict ≡ Ok tt → (k : TableKind) (n : SectionNumber) → 0 < n.0 → n.0 ≤ (open_of file).summary.count
     → TableCauses (Named file) (table_of k (open_of file).summary (length file) n)
 table-named file e k n p q =
     let o = opens file e in

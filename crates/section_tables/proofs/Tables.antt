@@ -18,9 +18,9 @@ use Rattle.table_kind.specs.declared.TableKind.{TableKind}
 use Rattle.table_kind.specs.Kind.{entry_length}
 use Rattle.table_kind.proofs.Places.{ends-past, ends-inside}
 use Rattle.section_tables.specs.declared.OverflowHeaders.{OverflowHeaders}
-use Rattle.section_tables.specs.declared.TableAnswer.TheVariants.{Found}
 use Rattle.section_tables.specs.declared.SectionTable.{SectionTable}
 use Rattle.section_tables.specs.Tables.{is_overflowed, is_overflow_of, overflow_step, overflow_in, overflow_of, table_at, table_by, table_of, Within}
+use Rattle.std.specs.Prelude.{Ok}
 
 -- ---- the end of a table, by a division: how many whole entries fit behind its start
 
@@ -63,5 +63,5 @@ table-within k y len n =
     (λ _. either (Within k f len) (eqb (overflow_of k y n).headers 1) (λ _. at-within k f len n _ _) (λ _. tt))
     (λ _. at-within k f len n _ _)
 
-pub found_within : (k : TableKind) (y : Summary) (len : ℕ) (n : SectionNumber) {t : SectionTable} → table_of k y len n ≡ Found t → t.start.0 + t.count * entry_length k y.format ≤ len
+pub found_within : (k : TableKind) (y : Summary) (len : ℕ) (n : SectionNumber) {t : SectionTable} → table_of k y len n ≡ Ok t → t.start.0 + t.count * entry_length k y.format ≤ len
 found_within k y len n e = rw e at (table-within k y len n)

@@ -1,5 +1,5 @@
 -- The tables that a section has of its own, relocations and line numbers: one definition over the kind of table and the format.
-use Rattle.std.specs.Prelude.{ℕ, zero, suc, ◌+◌, ◌-◌, ◌*◌, ◌≤◌, Bool, false, cond, ◌&&◌, List, eqb, get_or}
+use Rattle.std.specs.Prelude.{ℕ, zero, suc, ◌+◌, ◌-◌, ◌*◌, ◌≤◌, Bool, false, cond, ◌&&◌, List, eqb, get_or, Err, Ok, Result}
 use Rattle.word.specs.Test.{past}
 use Rattle.section_kind.specs.declared.SectionKind.TheVariants.{Ovrflo}
 use Rattle.section_kind.specs.Kind.{flags_of}
@@ -16,8 +16,8 @@ use Rattle.table_kind.specs.declared.TableKind.{TableKind}
 use Rattle.table_kind.specs.declared.TableKind.TheVariants.{Relocations, Lines}
 use Rattle.table_kind.specs.Kind.{entry_length}
 use Rattle.section_tables.specs.declared.OverflowHeaders.{OverflowHeaders}
-use Rattle.section_tables.specs.declared.TableAnswer.{TableAnswer}
-use Rattle.section_tables.specs.declared.TableAnswer.TheVariants.{Found, Refused}
+use Rattle.refusal.specs.declared.Refusal.{Refusal}
+use Rattle.section_tables.specs.declared.SectionTable.{SectionTable}
 
 -- ---- what a section header says
 
@@ -59,23 +59,23 @@ overflow_of k y n = overflow_in k y.sections n y.count
 -- ---- the table
 
 -- BOUNDS: offset + size passes the file's `len` bytes, also where the count is 0
-unfoldable pub table_at : TableKind → Format → ℕ → SectionNumber → FileOffset → ℕ → TableAnswer
+unfoldable pub table_at : TableKind → Format → ℕ → SectionNumber → FileOffset → ℕ → Result SectionTable Refusal
 table_at k f len n start count =
-    cond (past start.0 (count * entry_length k f) len) (Refused (Bounds (bounds.SectionTable n)))
-    (Found (record { start = start; count = count }))
+    cond (past start.0 (count * entry_length k f) len) (Err (Bounds (bounds.SectionTable n)))
+    (Ok (record { start = start; count = count }))
 
 -- by what the header of section n says: where an overflow header is looked up it must be there exactly once
-unfoldable pub table_by : TableKind → Summary → ℕ → SectionNumber → Section → TableAnswer
+unfoldable pub table_by : TableKind → Summary → ℕ → SectionNumber → Section → Result SectionTable Refusal
 table_by k y len n s =
     cond (is_overflowed k y.format s)
-    (cond (eqb (overflow_of k y n).headers 1) (table_at k y.format len n (header_start k s) (overflow_of k y n).count) (Refused (Bounds (bounds.SectionTable n))))
+    (cond (eqb (overflow_of k y n).headers 1) (table_at k y.format len n (header_start k s) (overflow_of k y n).count) (Err (Bounds (bounds.SectionTable n))))
     (table_at k y.format len n (header_start k s) (header_count k s))
 
 -- the table of section n, from one, of an opened file of `len` bytes
-abbrev pub table_of : TableKind → Summary → ℕ → SectionNumber → TableAnswer
+abbrev pub table_of : TableKind → Summary → ℕ → SectionNumber → Result SectionTable Refusal
 table_of k y len n = table_by k y len n (get_or y.sections (n.0 - 1) blank_section)
 
 -- what is found lies in a file of `len` bytes
-abbrev pub Within : TableKind → Format → ℕ → TableAnswer → Type 0
-Within k f len (Found t) = t.start.0 + t.count * entry_length k f ≤ len
-Within k f len (Refused x) = Unit {0}
+abbrev pub Within : TableKind → Format → ℕ → Result SectionTable Refusal → Type 0
+Within k f len (Ok t) = t.start.0 + t.count * entry_length k f ≤ len
+Within k f len (Err x) = Unit {0}

@@ -21,12 +21,6 @@ pub struct SectionTable {
     pub count: u64,
 }
 
-#[derive(Clone, Copy)]
-pub enum TableAnswer {
-    Found(SectionTable),
-    Refused(Refusal),
-}
-
 // How many overflow headers a section has, and the count that the last of them gives.
 #[derive(Clone, Copy)]
 pub struct OverflowHeaders {
@@ -116,11 +110,8 @@ fn find_overflow(
         headers: 0,
         count: 0,
     };
-    let mut i: u64 = 0;
-    while i < count {
-        let s = sections[i as usize];
-        o = overflow_step(k, n, s, o);
-        i += 1;
+    for s in &sections[..count as usize] {
+        o = overflow_step(k, n, *s, o);
     }
     o
 }
@@ -143,18 +134,23 @@ fn table_at(
     n: SectionNumber,
     start: FileOffset,
     count: u64,
-) -> TableAnswer
+) -> Result<SectionTable, Refusal>
     ensures { result ≡ table_at k f len n start count }
 {
     if ends_past(k, f, start.0, count, len) {
-        return TableAnswer::Refused(Refusal::Bounds(BoundsItem::SectionTable(n)));
+        return Err(Refusal::Bounds(BoundsItem::SectionTable(n)));
     }
-    TableAnswer::Found(SectionTable { start, count })
+    Ok(SectionTable { start, count })
 }
 
 // The table of section `n` of an opened file of `len` bytes: BOUNDS where it passes the file's end, or where its overflow
 // header is not there exactly once.
-pub fn find_table(k: TableKind, y: Summary, len: u64, n: SectionNumber) -> TableAnswer
+pub fn find_table(
+    k: TableKind,
+    y: Summary,
+    len: u64,
+    n: SectionNumber,
+) -> Result<SectionTable, Refusal>
     requires { (0 < n.0) × (n.0 ≤ y.count) × (y.count ≤ section_limit) }
     ensures { result ≡ table_of k y len n }
 {
@@ -166,7 +162,7 @@ pub fn find_table(k: TableKind, y: Summary, len: u64, n: SectionNumber) -> Table
     if is_overflowed(k, f, s) {
         let o = find_overflow(k, sections, y.count, n);
         if o.headers != 1 {
-            return TableAnswer::Refused(Refusal::Bounds(BoundsItem::SectionTable(n)));
+            return Err(Refusal::Bounds(BoundsItem::SectionTable(n)));
         }
         return table_at(k, f, len, n, start, o.count);
     }

@@ -1,15 +1,16 @@
 -- Ranges share a byte exactly where the test says so. Assumes nothing.
-use mathlib.Core.Path.{◌≡◌, refl, sym, ◌∙◌, ap}
-use mathlib.Core.Bool.{Bool, true, false, not, ◌&&◌, ◌||◌}
+use mathlib.Core.Path.{◌≡◌, refl, sym, ◌∙◌}
+use mathlib.Core.Bool.{Bool, true, false, not, ◌&&◌}
 use mathlib.Core.List.{List, [], ◌∷◌}
 use Prim.Native.Nat.{ℕ, ◌+◌, ◌≤◌, ◌<◌}
 use native.Mathlib.Decide.{dec_le}
 use native.Mathlib.Omega.{arith}
 use native.Mathlib.Numerals.{add-one}
-use lib.Dec.{eqb, ltb}
+use lib.Dec.{eqb}
 use lib.ListN.{length, get_or, take, drop, drop_of_length-le}
 use lib.Seq.{length-take-le, drop-cons, get_or-take}
 use borrow.Author.Tests.{eq-eqb, ne_eqb, eqb-false, ltb-true, not-true}
+use Rattle.std.specs.List.{list_any}
 use Rattle.word.specs.Test.{past}
 use Rattle.word.proofs.Test.{and_first, and_second, or-first, or-second, past-yes}
 use Rattle.format.specs.declared.FileRange.{FileRange}
@@ -109,6 +110,11 @@ separate-told (a ∷ rs) d = rw (apart-all-told a rs d.0, separate-told rs d.1) 
 
 -- ---- loops over the first n of an array of ranges
 
+pub one-any : (a : FileRange) (rs : List FileRange) → list_any (shares a) rs ≡ shares_one a rs
+unfolding shares_one
+one-any a [] = refl
+one-any a (b ∷ rs) = rw (one-any a rs) refl
+
 module _ (rs : List FileRange) (n : ℕ) (k : n ≤ length rs) where
   abbrev left : ℕ → List FileRange
   left i = drop i (take n rs)
@@ -120,19 +126,6 @@ module _ (rs : List FileRange) (n : ℕ) (k : n ≤ length rs) where
 
   none_left : (i : ℕ) → n ≤ i → left i ≡ []
   none_left i h = drop_of_length-le (take n rs) {i = i} (rw (length-take-le n rs k) h)
-
-  module _ (a : FileRange) where
-    pub one_found : (i : ℕ) → i < n → shares a (get_or rs i (range 0 0)) ≡ true → true ≡ shares_one a (left i)
-    unfolding shares_one
-    one_found i h e = rw (first-left i h, e) refl
-
-    pub one-next : (i : ℕ) → i < n → shares a (get_or rs i (range 0 0)) ≡ false → shares_one a (left (i + 1)) ≡ shares_one a (left i)
-    unfolding shares_one
-    one-next i h e = rw (first-left i h, e) refl
-
-    pub one_end : (i : ℕ) → n ≤ i → shares_one a (left i) ≡ false
-    unfolding shares_one
-    one_end i h = rw (none_left i h) refl
 
   pub two-found : (i : ℕ) → i < n → shares_one (get_or rs i (range 0 0)) (left (i + 1)) ≡ true → true ≡ shares_two (left i)
   unfolding shares_two

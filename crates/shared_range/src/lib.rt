@@ -25,14 +25,7 @@ fn shares_one(a: FileRange, rs: [FileRange; 6], from: usize, n: usize) -> bool
     requires { n ≤ 6 }
     ensures { result ≡ shares_one a (drop from (take n rs)) }
 {
-    let mut i = from;
-    while i < n {
-        if share_byte(a, rs[i]) {
-            return true;
-        }
-        i += 1;
-    }
-    false
+    rs[..n].iter().skip(from).any(|b| share_byte(a, *b))
 }
 
 // Two of the first n ranges share a byte.
@@ -40,12 +33,10 @@ pub fn share_two(rs: [FileRange; 6], n: usize) -> bool
     requires { n ≤ 6 }
     ensures { result ≡ shares_two (take n rs) }
 {
-    let mut i = 0;
-    while i < n {
+    for i in 0..n {
         if shares_one(rs[i], rs, i + 1, n) {
             return true;
         }
-        i += 1;
     }
     false
 }

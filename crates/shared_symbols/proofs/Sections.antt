@@ -1,16 +1,14 @@
 -- Laws of SHARED. Assumes nothing.
-use Prim.Native.Nat.{ℕ, suc, ◌+◌, ◌*◌, ◌≤◌}
-use mathlib.Core.Path.{◌≡◌, refl, sym, ◌∙◌, ap}
-use mathlib.Core.Bool.{Bool, true, false, cond, ◌&&◌, ◌||◌}
-use mathlib.Core.List.{List, [], ◌∷◌}
+use Prim.Native.Nat.{ℕ, suc, ◌+◌, ◌≤◌}
+use mathlib.Core.Path.{◌≡◌, refl}
+use mathlib.Core.Bool.{Bool, true, false, cond, ◌||◌}
+use mathlib.Core.List.{List, ◌∷◌}
 use native.Mathlib.Omega.{arith}
 use borrow.Author.Tests.{eq-eqb, ne_eqb}
-use lib.Dec.{eqb}
 use lib.ListN.{length, get_or}
 use Rattle.section_kind.specs.declared.SectionKind.TheVariants.{Debug}
 use Rattle.section_kind.specs.Kind.{flags_of}
 use Rattle.format.specs.declared.FileRange.{FileRange}
-use Rattle.format.specs.Layout.{symbol_length, header_layout, section_layout}
 use Rattle.format.specs.Limit.{file_limit, section_limit}
 use Rattle.format.specs.Range.{range}
 use Rattle.section.specs.declared.Section.{Section}
@@ -20,7 +18,7 @@ use Rattle.header.specs.declared.Summary.{Summary}
 use Rattle.header.specs.Inside.{Inside}
 use Rattle.debug_section.specs.Debug.{is_debug, raw_of, debug_ranges}
 use Rattle.shared_range.specs.Shared.{shares, shares_one}
-use Rattle.shared_symbols.specs.Shared.{symbol_range, header_area, is_shared}
+use Rattle.shared_symbols.specs.Shared.{symbol_range, is_shared}
 
 -- ---- one section
 

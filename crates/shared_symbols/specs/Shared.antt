@@ -1,5 +1,5 @@
 -- SHARED: the symbol table shares a byte with the header area or a debug section.
-use Rattle.std.specs.Prelude.{ℕ, ◌*◌, Bool, List, ◌∷◌}
+use Rattle.std.specs.Prelude.{◌*◌, Bool, ◌∷◌}
 use Rattle.format.specs.declared.FileRange.{FileRange}
 use Rattle.format.specs.Layout.{symbol_length}
 use Rattle.format.specs.Range.{range}

@@ -40,11 +40,8 @@ fn shares_debug(a: FileRange, sections: [Section; 32], count: u64) -> bool
     ensures { result ≡ shares_one a (debug_ranges sections count) }
 {
     let mut shared = false;
-    let mut i: u64 = 0;
-    while i < count {
-        let s = sections[i as usize];
-        shared = shares_section(a, s, shared);
-        i += 1;
+    for s in &sections[..count as usize] {
+        shared = shares_section(a, *s, shared);
     }
     shared
 }

@@ -14,15 +14,11 @@ use Rattle.refusal.specs.declared.Refusal.{Refusal}
 use Rattle.refusal.specs.declared.Refusal.TheVariants as refusal
 use Rattle.refusal.specs.declared.LimitItem.TheVariants.{SheetList}
 use Rattle.refusal.specs.declared.RoomItem.TheVariants.{AddressList}
-use Rattle.refusal.specs.declared.Verdict.TheVariants.{Accepted}
-use Rattle.refusal.specs.declared.Verdict.TheVariants as verdict
 use Rattle.sheet.specs.Sheet.{list_limit, form_by, form_of, head_length, sheet_length, first_count, head_of, addresses_of, sheet_check, read_check, head_in, read_in, list_in, head_answer, read_answer, read_list}
 use Rattle.sheet.proofs.Answers.{first_two, whole_length}
-use Rattle.sheet.specs.declared.FormAnswer.{FormAnswer}
-use Rattle.sheet.specs.declared.FormAnswer.TheVariants.{Known, Unknown}
 use Rattle.sheet.specs.declared.SheetForm.{SheetForm}
 use Rattle.sheet.specs.declared.SheetForm.TheVariants.{Old, New}
-use Rattle.sheet.specs.declared.SheetAnswer.TheVariants.{Found, Refused}
+use Rattle.std.specs.Prelude.{Err, None, Ok, Option, Some}
 
 -- ---- the numbers of each form
 
@@ -36,25 +32,25 @@ new-numbers k = (refl, omega arith, refl)
 -- ---- the form by the first two bytes
 
 -- 0002 begins an old sheet, 0000 a new one, and nothing else has a form
-pub old-form : (s : List ℕ) → 2 ≤ length s → field_at 2 0 s ≡ 2 → form_of s ≡ Known Old
+pub old-form : (s : List ℕ) → 2 ≤ length s → field_at 2 0 s ≡ 2 → form_of s ≡ Some Old
 unfolding form_of form_by
 old-form s n e = rw (le-ltb (length s) 2 n, e) refl
 
-pub new-form : (s : List ℕ) → 2 ≤ length s → field_at 2 0 s ≡ 0 → form_of s ≡ Known New
+pub new-form : (s : List ℕ) → 2 ≤ length s → field_at 2 0 s ≡ 0 → form_of s ≡ Some New
 unfolding form_of form_by
 new-form s n e = rw (le-ltb (length s) 2 n, e) refl
 
-pub no-form : (s : List ℕ) → (length s < 2) ⊎ ((field_at 2 0 s ≡ 2 → ⊥) × (field_at 2 0 s ≡ 0 → ⊥)) → form_of s ≡ Unknown
+pub no-form : (s : List ℕ) → (length s < 2) ⊎ ((field_at 2 0 s ≡ 2 → ⊥) × (field_at 2 0 s ≡ 0 → ⊥)) → form_of s ≡ None
 unfolding form_of
 no-form s (inl n) = rw (lt-ltb (length s) 2 n) refl
 no-form s (inr e) = either (ltb (length s) 2) (form_by (field_at 2 0 s)) (unfold form_by in (rw (ne_eqb (field_at 2 0 s) 2 e.0, ne_eqb (field_at 2 0 s) 0 e.1) refl))
   where
-    either : (b : Bool) (x : FormAnswer) → x ≡ Unknown → cond b Unknown x ≡ Unknown
+    either : (b : Bool) (x : Option SheetForm) → x ≡ None → cond b None x ≡ None
     either true x e = refl
     either false x e = e
 
 -- a sheet that is well-formed in a form begins as that form does: none is well-formed in both
-pub one_form : (f : SheetForm) (s : List ℕ) → sheet_check f s ≡ Accepted → form_of s ≡ Known f
+pub one_form : (f : SheetForm) (s : List ℕ) → sheet_check f s ≡ Ok tt → form_of s ≡ Some f
 one_form Old s e = old-form s (omega (arith, whole_length Old s e)) (first_two Old s e)
 one_form New s e =
     let long = whole_length New s e in
@@ -66,15 +62,15 @@ one_form New s e =
 -- the head is refused, and reading too, whatever list is lent: it is as it was
 abbrev pub BothRefuse : List ℕ → Refusal → Type 0
 BothRefuse s x =
-    (head_answer s ≡ Refused x) × ((list : List ℕ) → (read_answer s (length list) ≡ Refused x) × (read_list s list ≡ list))
+    (head_answer s ≡ Err x) × ((list : List ℕ) → (read_answer s (length list) ≡ Err x) × (read_list s list ≡ list))
 
 -- SHEET: the sheet has no form
-pub no-form-refused : (s : List ℕ) → form_of s ≡ Unknown → BothRefuse s refusal.Sheet
+pub no-form-refused : (s : List ℕ) → form_of s ≡ None → BothRefuse s refusal.Sheet
 unfolding head_answer read_answer read_list
 no-form-refused s k = (rw k refl, λ list. (rw k refl, rw k refl))
 
-module _ (f : SheetForm) (s : List ℕ) (k : form_of s ≡ Known f) where
-  both-refuse : (x : Refusal) → sheet_check f s ≡ verdict.Refused x → BothRefuse s x
+module _ (f : SheetForm) (s : List ℕ) (k : form_of s ≡ Some f) where
+  both-refuse : (x : Refusal) → sheet_check f s ≡ Err x → BothRefuse s x
   unfolding head_answer head_in read_answer read_in read_list list_in read_check
   both-refuse x e = (rw (k, e) refl, λ list. (rw (k, e) refl, rw (k, e) refl))
 
@@ -103,19 +99,19 @@ module _ (f : SheetForm) (s : List ℕ) (k : form_of s ≡ Known f) where
 
         module _ (w : length s ≡ sheet_length f (head_of f s).count) where
           -- every other sheet is well-formed, and says its head
-          pub accepted : sheet_check f s ≡ Accepted
+          pub accepted : sheet_check f s ≡ Ok tt
           unfolding sheet_check
           accepted = rw (le-ltb (length s) (head_length f) n, e, le-ltb (list_limit f) (head_of f s).count m, eq-eqb (length s) (sheet_length f (head_of f s).count) w) refl
 
-          pub head-said : head_answer s ≡ Found (head_of f s)
+          pub head-said : head_answer s ≡ Ok (head_of f s)
           unfolding head_answer head_in
           head-said = rw (k, accepted) refl
 
           -- it is read into a list of its count's places, and into no other: ROOM 2, and the list is as it was
-          pub read_whole : (list : List ℕ) → length list ≡ (head_of f s).count → (read_answer s (length list) ≡ Found (head_of f s)) × (read_list s list ≡ addresses_of f s)
+          pub read_whole : (list : List ℕ) → length list ≡ (head_of f s).count → (read_answer s (length list) ≡ Ok (head_of f s)) × (read_list s list ≡ addresses_of f s)
           unfolding read_answer read_in read_list list_in read_check
           read_whole list q = (rw (k, accepted, eq-eqb (length list) (head_of f s).count q) refl, rw (k, accepted, eq-eqb (length list) (head_of f s).count q) refl)
 
-          pub room-refused : (list : List ℕ) → (length list ≡ (head_of f s).count → ⊥) → (read_answer s (length list) ≡ Refused (refusal.Room AddressList)) × (read_list s list ≡ list)
+          pub room-refused : (list : List ℕ) → (length list ≡ (head_of f s).count → ⊥) → (read_answer s (length list) ≡ Err (refusal.Room AddressList)) × (read_list s list ≡ list)
           unfolding read_answer read_in read_list list_in read_check
           room-refused list q = (rw (k, accepted, ne_eqb (length list) (head_of f s).count q) refl, rw (k, accepted, ne_eqb (length list) (head_of f s).count q) refl)

@@ -10,20 +10,17 @@ use lib.Seq.{take_at, drop_at}
 use Rattle.word.specs.Number.{value_of, field_at}
 use Rattle.update.specs.Update.{bytes_of_number, Bytes}
 use Rattle.update.proofs.Laws.{length-bytes}
-use Rattle.refusal.specs.declared.Verdict.{Verdict}
-use Rattle.refusal.specs.declared.Verdict.TheVariants.{Accepted}
-use Rattle.refusal.specs.declared.Verdict.TheVariants as verdict
 use Rattle.sheet.specs.Sheet.{count_width, list_limit, form_by, form_of, head_length, sheet_length, first_count, head_of, numbers_from, addresses_of, sheet_check, read_check, read_in, list_in, address_bytes, sheet_bytes, write_check, head_by, read_answer, read_list, write_sheet, new_form}
 use Rattle.sheet.proofs.Addresses.{length-numbers, length-sheet, field-first, field-later, numbers-later, numbers-addresses, bytes-then, addresses-numbers}
 use Rattle.sheet.proofs.Answers.{few_bytes, first_two, few-addresses, whole_length, room-enough}
-use Rattle.sheet.specs.declared.FormAnswer.TheVariants.{Known}
 use Rattle.sheet.specs.declared.SheetForm.{SheetForm}
 use Rattle.sheet.specs.declared.SheetForm.TheVariants.{Old, New}
-use Rattle.sheet.specs.declared.SheetAnswer.TheVariants.{Found, Refused}
 use Rattle.sheet.specs.declared.SheetHead.{SheetHead}
 use Rattle.refusal.specs.Order.{by_verdict}
 use Rattle.refusal.specs.Refusal.{is_refused}
 use Rattle.refusal.proofs.Order.{accepted-first}
+use Rattle.std.specs.Prelude.{Err, Ok, Some}
+use Rattle.refusal.specs.Verdict.{Verdict}
 
 -- the count has room for every list that passes no limit
 wide : (f : SheetForm) → list_limit f < 256 ^ count_width f
@@ -33,7 +30,7 @@ wide New = omega arith
 -- ---- writing, then reading
 
 -- the sheet of a plan begins as its form does
-written-form : (f : SheetForm) (text dat : ℕ) (list : List ℕ) → form_of (sheet_bytes f text dat list) ≡ Known f
+written-form : (f : SheetForm) (text dat : ℕ) (list : List ℕ) → form_of (sheet_bytes f text dat list) ≡ Some f
 unfolding form_of
 written-form f text dat list = rw (length-sheet f text dat list, le-ltb (sheet_length f (length list)) 2 (long f)) (begins f)
   where
@@ -41,7 +38,7 @@ written-form f text dat list = rw (length-sheet f text dat list, le-ltb (sheet_l
     long Old = omega arith
     long New = omega arith
 
-    begins : (g : SheetForm) → form_by (field_at 2 0 (sheet_bytes g text dat list)) ≡ Known g
+    begins : (g : SheetForm) → form_by (field_at 2 0 (sheet_bytes g text dat list)) ≡ Some g
     begins Old = unfold form_by sheet_bytes bytes_of_number field_at value_of in refl
     begins New = unfold form_by sheet_bytes bytes_of_number field_at value_of in refl
 
@@ -86,7 +83,7 @@ module _ (f : SheetForm) (text dat : ℕ) (list : List ℕ) (t : text < 2 ^ 64) 
           ∙ numbers-later w (length list) (length list) w 0 (address_bytes list) (omega arith))
 
   -- reading accepts it
-  written-accepted : read_check f (sheet_bytes f text dat list) (length list) ≡ Accepted
+  written-accepted : read_check f (sheet_bytes f text dat list) (length list) ≡ Ok tt
   unfolding read_check sheet_check
   written-accepted =
       let k : ℕ = length list in
@@ -95,8 +92,8 @@ module _ (f : SheetForm) (text dat : ℕ) (list : List ℕ) (t : text < 2 ^ 64) 
 -- "A plan sheet that was written reads back as the same plan": a sheet that writing left in any buffer is accepted by reading, which gives the text and data addresses, and
 -- leaves in any list of that many places every address of the list.
 pub written-reads-back : (text dat : ℕ) (list sheet list' : List ℕ) → text < 2 ^ 64 → dat < 2 ^ 64 → ((k : ℕ) → get_or list k 0 < 2 ^ 64)
-    → write_check (length list) (length sheet) ≡ Accepted → length list' ≡ length list
-    → (read_answer (write_sheet text dat list sheet) (length list') ≡ Found (head_by text dat (length list))) × (read_list (write_sheet text dat list sheet) list' ≡ list)
+    → write_check (length list) (length sheet) ≡ Ok tt → length list' ≡ length list
+    → (read_answer (write_sheet text dat list sheet) (length list') ≡ Ok (head_by text dat (length list))) × (read_list (write_sheet text dat list sheet) list' ≡ list)
 unfolding write_sheet read_answer read_list read_in list_in
 written-reads-back text dat list sheet list' t d h e n =
     let few : length list ≤ list_limit New = (room-enough list sheet refl (ap is_refused e)).0 in
@@ -104,7 +101,7 @@ written-reads-back text dat list sheet list' t d h e n =
 
 -- ---- reading, then writing
 
-module _ (f : SheetForm) (s : List ℕ) (b : Bytes s) (e : sheet_check f s ≡ Accepted) where
+module _ (f : SheetForm) (s : List ℕ) (b : Bytes s) (e : sheet_check f s ≡ Ok tt) where
   -- the sheet that was read has as many addresses as its count says
   length-list : length (addresses_of f s) ≡ (head_of f s).count
   unfolding addresses_of
@@ -129,24 +126,24 @@ module _ (f : SheetForm) (s : List ℕ) (b : Bytes s) (e : sheet_check f s ≡ A
       ∙ bytes-then w 0 s from_text b (omega arith) (at_text ∙ ap (λ (k : ℕ). drop k s) (sym (zero-add w)))
 
   -- writing accepts a buffer of its length in the new form
-  read_length : (room : ℕ) → room ≡ sheet_length New (head_of f s).count → write_check (length (addresses_of f s)) room ≡ Accepted
+  read_length : (room : ℕ) → room ≡ sheet_length New (head_of f s).count → write_check (length (addresses_of f s)) room ≡ Ok tt
   unfolding write_check
   read_length room r =
       let k : ℕ = (head_of f s).count in
       rw (length-list, r, le-ltb (list_limit New) k (omega (arith, few-addresses f s e, (few_bytes f).1)), eq-eqb (sheet_length New k) (sheet_length New k) refl) refl
 
 -- an answer that gives a head was accepted, and gives that head
-found-head : (v : Verdict) {a h : SheetHead} → by_verdict v (Found a) Refused ≡ Found h → (v ≡ Accepted) × (a ≡ h)
-found-head Accepted e = (refl, cc)
-found-head (verdict.Refused x) e = let z : ◌≡◌ {A = ℕ} 0 1 = cc in absurd (omega arith)
+found-head : (v : Verdict) {a h : SheetHead} → by_verdict v (Ok a) Err ≡ Ok h → (v ≡ Ok tt) × (a ≡ h)
+found-head (Ok tt) e = (refl, cc)
+found-head (Err x) e = let z : ◌≡◌ {A = ℕ} 0 1 = cc in absurd (omega arith)
 
 -- a sheet of the form f that was read is accepted, and the answer and the list are its head and its addresses
-module _ (f : SheetForm) (s list : List ℕ) {h : SheetHead} (k : form_of s ≡ Known f) (r : read_answer s (length list) ≡ Found h) where
-  pub was_read : (read_check f s (length list) ≡ Accepted) × (head_of f s ≡ h)
+module _ (f : SheetForm) (s list : List ℕ) {h : SheetHead} (k : form_of s ≡ Some f) (r : read_answer s (length list) ≡ Ok h) where
+  pub was_read : (read_check f s (length list) ≡ Ok tt) × (head_of f s ≡ h)
   unfolding read_answer read_in
   was_read = found-head (read_check f s (length list)) (rw k at r)
 
-  pub well-formed : sheet_check f s ≡ Accepted
+  pub well-formed : sheet_check f s ≡ Ok tt
   unfolding read_check
   well-formed = accepted-first (sheet_check f s) _ was_read.0
 
@@ -155,15 +152,15 @@ module _ (f : SheetForm) (s list : List ℕ) {h : SheetHead} (k : form_of s ≡ 
   list_read = rw (k, was_read.0) refl
 
   -- what was read, written into a buffer of the new form's length, is accepted and leaves the new sheet of its addresses
-  written_new : Bytes s → (sheet : List ℕ) → length sheet ≡ sheet_length New h.count → (write_check (length (read_list s list)) (length sheet) ≡ Accepted) × (write_sheet h.text.0 h.«data».0 (read_list s list) sheet ≡ sheet_bytes New (head_of f s).text.0 (head_of f s).«data».0 (addresses_of f s))
+  written_new : Bytes s → (sheet : List ℕ) → length sheet ≡ sheet_length New h.count → (write_check (length (read_list s list)) (length sheet) ≡ Ok tt) × (write_sheet h.text.0 h.«data».0 (read_list s list) sheet ≡ sheet_bytes New (head_of f s).text.0 (head_of f s).«data».0 (addresses_of f s))
   unfolding write_sheet
   written_new b sheet n =
       let c = read_length f s b well-formed (length sheet) (rw was_read.1 n) in
       rw (← was_read.1, list_read, c) (refl, refl)
 
 -- "a sheet that was read writes back as the same bytes", of new sheets: what reading answered and left in a list, written into any buffer of the sheet's length, is accepted and leaves the sheet.
-pub read-writes-back : (s list sheet : List ℕ) {h : SheetHead} → Bytes s → form_of s ≡ Known New → read_answer s (length list) ≡ Found h → length sheet ≡ length s
-    → (write_check (length (read_list s list)) (length sheet) ≡ Accepted) × (write_sheet h.text.0 h.«data».0 (read_list s list) sheet ≡ s)
+pub read-writes-back : (s list sheet : List ℕ) {h : SheetHead} → Bytes s → form_of s ≡ Some New → read_answer s (length list) ≡ Ok h → length sheet ≡ length s
+    → (write_check (length (read_list s list)) (length sheet) ≡ Ok tt) × (write_sheet h.text.0 h.«data».0 (read_list s list) sheet ≡ s)
 read-writes-back s list sheet b k r n =
     let e = well-formed New s list k r in
     let w = written_new New s list k r b sheet (n ∙ whole_length New s e ∙ ap (λ (x : SheetHead). sheet_length New x.count) (was_read New s list k r).1) in
@@ -195,8 +192,8 @@ new-of-old text dat list n =
     split x = rw (append_assoc (bytes_of_number 2 2) (bytes_of_number 8 text ++ bytes_of_number 8 dat) x, append_assoc (bytes_of_number 8 text) (bytes_of_number 8 dat) x) refl
 
 -- "reading an old one and writing gives its new form": what reading answered and left in a list, written into any buffer of the new form's length, is accepted and leaves it.
-pub old-writes-new : (s list sheet : List ℕ) {h : SheetHead} → Bytes s → form_of s ≡ Known Old → read_answer s (length list) ≡ Found h → length sheet ≡ sheet_length New h.count
-    → (write_check (length (read_list s list)) (length sheet) ≡ Accepted) × (write_sheet h.text.0 h.«data».0 (read_list s list) sheet ≡ new_form s)
+pub old-writes-new : (s list sheet : List ℕ) {h : SheetHead} → Bytes s → form_of s ≡ Some Old → read_answer s (length list) ≡ Ok h → length sheet ≡ sheet_length New h.count
+    → (write_check (length (read_list s list)) (length sheet) ≡ Ok tt) × (write_sheet h.text.0 h.«data».0 (read_list s list) sheet ≡ new_form s)
 old-writes-new s list sheet b k r n =
     let e = well-formed Old s list k r in
     let w = written_new Old s list k r b sheet n in

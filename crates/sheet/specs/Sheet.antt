@@ -1,24 +1,20 @@
 -- The plan sheet, once over its form: an old one has its two counts in 2 bytes, a new one in 4.
-use Rattle.std.specs.Prelude.{ℕ, zero, suc, ◌+◌, ◌*◌, not, cond, List, [], ◌∷◌, ◌++◌, eqb, ltb, length, take, drop}
+use Rattle.std.specs.Prelude.{ℕ, zero, suc, ◌+◌, ◌*◌, not, cond, List, [], ◌∷◌, ◌++◌, eqb, ltb, length, take, drop, Err, None, Ok, Option, Result, Some}
 use Rattle.word.specs.Number.{field_at}
 use Rattle.update.specs.Update.{bytes_of_number}
 use Rattle.refusal.specs.declared.LimitItem.TheVariants.{SheetList}
 use Rattle.refusal.specs.declared.Refusal.TheVariants as refusal
 use Rattle.refusal.specs.declared.RoomItem.TheVariants.{SheetBuffer, AddressList}
-use Rattle.refusal.specs.declared.Verdict.{Verdict}
-use Rattle.refusal.specs.declared.Verdict.TheVariants as verdict
 use Rattle.refusal.specs.Order.{◌or_else◌, refuse_if, by_verdict, if_accepted}
 use Rattle.refusal.specs.declared.Head.{Head}
 use Rattle.refusal.specs.Refusal.{accepted_head, refused_head}
-use Rattle.sheet.specs.declared.FormAnswer.{FormAnswer}
-use Rattle.sheet.specs.declared.FormAnswer.TheVariants.{Known, Unknown}
 use Rattle.sheet.specs.declared.SheetForm.{SheetForm}
 use Rattle.sheet.specs.declared.SheetForm.TheVariants.{Old, New}
-use Rattle.sheet.specs.declared.SheetAnswer.{SheetAnswer}
-use Rattle.sheet.specs.declared.SheetAnswer.TheVariants.{Found, Refused}
 use Rattle.sheet.specs.declared.SheetHead.{SheetHead}
 use Rattle.sheet.specs.declared.SheetReport.{SheetReport}
 use Rattle.format.specs.Limit.{old_sheet_list_limit, sheet_list_limit}
+use Rattle.refusal.specs.declared.Refusal.{Refusal}
+use Rattle.refusal.specs.Verdict.{Verdict}
 
 -- ---- the two forms
 
@@ -33,16 +29,16 @@ list_limit Old = old_sheet_list_limit
 list_limit New = sheet_list_limit
 
 -- an old sheet begins 0002, a new one 0000
-unfoldable pub form_by : ℕ → FormAnswer
-form_by v = cond (eqb v 2) (Known Old) (cond (eqb v 0) (Known New) Unknown)
+unfoldable pub form_by : ℕ → Option SheetForm
+form_by v = cond (eqb v 2) (Some Old) (cond (eqb v 0) (Some New) None)
 
-unfoldable pub form_of : List ℕ → FormAnswer
-form_of s = cond (ltb (length s) 2) Unknown (form_by (field_at 2 0 s))
+unfoldable pub form_of : List ℕ → Option SheetForm
+form_of s = cond (ltb (length s) 2) None (form_by (field_at 2 0 s))
 
 -- what a sheet's form gives, or what is given where it has none
-abbrev pub by_form : {A : Type 0} → FormAnswer → (SheetForm → A) → A → A
-by_form (Known f) g a = g f
-by_form Unknown g a = a
+abbrev pub by_form : {A : Type 0} → Option SheetForm → (SheetForm → A) → A → A
+by_form (Some f) g a = g f
+by_form None g a = a
 
 -- ---- the parts of a sheet
 
@@ -103,22 +99,22 @@ unfoldable pub read_check : SheetForm → List ℕ → ℕ → Verdict
 read_check f s places = sheet_check f s or_else room_check places (head_of f s)
 
 -- what a sheet of the form f says of itself, and what reading it answers and leaves in the lent list
-unfoldable pub head_in : List ℕ → SheetForm → SheetAnswer
-head_in s f = by_verdict (sheet_check f s) (Found (head_of f s)) Refused
+unfoldable pub head_in : List ℕ → SheetForm → Result SheetHead Refusal
+head_in s f = by_verdict (sheet_check f s) (Ok (head_of f s)) Err
 
-unfoldable pub read_in : List ℕ → ℕ → SheetForm → SheetAnswer
-read_in s places f = by_verdict (read_check f s places) (Found (head_of f s)) Refused
+unfoldable pub read_in : List ℕ → ℕ → SheetForm → Result SheetHead Refusal
+read_in s places f = by_verdict (read_check f s places) (Ok (head_of f s)) Err
 
 unfoldable pub list_in : List ℕ → List ℕ → SheetForm → List ℕ
 list_in s list f = if_accepted (read_check f s (length list)) (addresses_of f s) list
 
 -- what a sheet says of itself: its addresses and how many places its list needs; SHEET where it has no form
-unfoldable pub head_answer : List ℕ → SheetAnswer
-head_answer s = by_form (form_of s) (head_in s) (Refused refusal.Sheet)
+unfoldable pub head_answer : List ℕ → Result SheetHead Refusal
+head_answer s = by_form (form_of s) (head_in s) (Err refusal.Sheet)
 
 -- what reading answers
-unfoldable pub read_answer : List ℕ → ℕ → SheetAnswer
-read_answer s places = by_form (form_of s) (read_in s places) (Refused refusal.Sheet)
+unfoldable pub read_answer : List ℕ → ℕ → Result SheetHead Refusal
+read_answer s places = by_form (form_of s) (read_in s places) (Err refusal.Sheet)
 
 -- what reading leaves in the lent list
 unfoldable pub read_list : List ℕ → List ℕ → List ℕ
@@ -141,10 +137,10 @@ new_form s = 0 ∷ 0 ∷ (take 18 s ++ (0 ∷ 0 ∷ drop 18 s))
 
 -- what reports on sheets start with: there is no file, and the offset is 0
 abbrev pub sheet_head : Verdict → Head
-sheet_head verdict.Accepted = accepted_head
-sheet_head (verdict.Refused x) = refused_head x 0
+sheet_head (Ok tt) = accepted_head
+sheet_head (Err x) = refused_head x 0
 
 -- the answer in document 01's numbers
-abbrev pub report_of_sheet : SheetAnswer → SheetReport
-report_of_sheet (Found h) = record { head = accepted_head; text = h.text.0; «data» = h.«data».0; count = h.count }
-report_of_sheet (Refused x) = record { head = refused_head x 0; text = 0; «data» = 0; count = 0 }
+abbrev pub report_of_sheet : Result SheetHead Refusal → SheetReport
+report_of_sheet (Ok h) = record { head = accepted_head; text = h.text.0; «data» = h.«data».0; count = h.count }
+report_of_sheet (Err x) = record { head = refused_head x 0; text = 0; «data» = 0; count = 0 }

@@ -6,7 +6,7 @@ ghost use Rattle.word.specs.Number.{field_at};
 ghost use Rattle.sheet.specs.Sheet.{count_width, list_limit, form_of, head_length, sheet_length, head_of, write_check, sheet_head, report_of_sheet};
 
 use format::VirtualAddress;
-use refusal::{Head, LimitItem, Refusal, RoomItem, Verdict};
+use refusal::{Head, LimitItem, Refusal, RoomItem};
 
 // The two forms of a sheet: an old one has its two counts in 2 bytes, a new one in 4.
 #[derive(Clone, Copy)]
@@ -15,24 +15,12 @@ pub enum SheetForm {
     New,
 }
 
-#[derive(Clone, Copy)]
-pub enum FormAnswer {
-    Known(SheetForm),
-    Unknown,
-}
-
 // A sheet's text and data addresses, and how many addresses its list has.
 #[derive(Clone, Copy)]
 pub struct SheetHead {
     pub text: VirtualAddress,
     pub data: VirtualAddress,
     pub count: u64,
-}
-
-#[derive(Clone, Copy)]
-pub enum SheetAnswer {
-    Found(SheetHead),
-    Refused(Refusal),
 }
 
 #[repr(C)]
@@ -75,20 +63,20 @@ pub fn list_limit(f: SheetForm) -> u64
 }
 
 // The form by the first two bytes.
-pub fn form_of(sheet: &[u8]) -> FormAnswer
+pub fn form_of(sheet: &[u8]) -> Option<SheetForm>
     ensures { result ≡ form_of sheet.now }
 {
     if sheet.len() < 2 {
-        return FormAnswer::Unknown;
+        return None;
     }
     let first = word::get16(sheet, 0);
     if first == 2 {
-        return FormAnswer::Known(SheetForm::Old);
+        return Some(SheetForm::Old);
     }
     if first == 0 {
-        return FormAnswer::Known(SheetForm::New);
+        return Some(SheetForm::New);
     }
-    FormAnswer::Unknown
+    None
 }
 
 // The count at `off`.
@@ -124,33 +112,33 @@ pub fn sheet_length(f: SheetForm, count: u64) -> u64
 }
 
 // LIMIT 2, ROOM 0.
-pub fn check_write(count: u64, room: u64) -> Verdict
+pub fn check_write(count: u64, room: u64) -> Result<(), Refusal>
     ensures { result ≡ write_check count room }
 {
     if format::SHEET_LIST_LIMIT < count {
-        return Verdict::Refused(Refusal::Limit(LimitItem::SheetList));
+        return Err(Refusal::Limit(LimitItem::SheetList));
     }
     if room != sheet_length(SheetForm::New, count) {
-        return Verdict::Refused(Refusal::Room(RoomItem::SheetBuffer));
+        return Err(Refusal::Room(RoomItem::SheetBuffer));
     }
-    Verdict::Accepted
+    Ok(())
 }
 
 // The head of a report on a sheet: there is no file, and the offset is 0.
-pub fn report_head(v: Verdict) -> Head
+pub fn report_head(v: Result<(), Refusal>) -> Head
     ensures { result ≡ sheet_head v }
 {
     match v {
-        Verdict::Accepted => refusal::accepted_head(),
-        Verdict::Refused(x) => refusal::refused_head(x, 0),
+        Ok(()) => refusal::accepted_head(),
+        Err(x) => refusal::refused_head(x, 0),
     }
 }
 
-pub fn report_sheet(a: SheetAnswer) -> SheetReport
+pub fn report_sheet(a: Result<SheetHead, Refusal>) -> SheetReport
     ensures { result ≡ report_of_sheet a }
 {
     match a {
-        SheetAnswer::Found(h) => {
+        Ok(h) => {
             let text = h.text;
             let data = h.data;
             SheetReport {
@@ -160,7 +148,7 @@ pub fn report_sheet(a: SheetAnswer) -> SheetReport
                 count: h.count,
             }
         }
-        SheetAnswer::Refused(x) => SheetReport {
+        Err(x) => SheetReport {
             head: refusal::refused_head(x, 0),
             text: 0,
             data: 0,

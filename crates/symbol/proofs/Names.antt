@@ -15,9 +15,6 @@ use Rattle.format.specs.declared.SymbolIndex.{SymbolIndex}
 use Rattle.format.specs.Range.{range, bytes_of}
 use Rattle.format.proofs.Ranges.{length_part}
 use Rattle.refusal.specs.declared.Refusal.TheVariants.{Name}
-use Rattle.refusal.specs.declared.RangeAnswer.{RangeAnswer}
-use Rattle.refusal.specs.declared.RangeAnswer.TheVariants.{Found, Refused}
-use Rattle.refusal.specs.declared.Verdict.TheVariants.{Accepted}
 use Rattle.refusal.specs.Order.{refuse_if}
 use Rattle.refusal.specs.Part.{Within}
 use Rattle.refusal.proofs.Order.{not-accepted}
@@ -31,45 +28,47 @@ use Rattle.symbol.specs.Entry.{OpenTables}
 use Rattle.symbol.specs.Name.{string_room, debug_room, is_debug_class, room_by, has_name}
 use Rattle.symbol.specs.Symbol.{verdict_of, name_check}
 use Rattle.symbol.proofs.Opened.{TablesInside, tables-inside, entry_whole}
+use Rattle.std.specs.Prelude.{Err, Ok, Result}
+use Rattle.refusal.specs.declared.Refusal.{Refusal}
 
 -- ---- a string by its offset
 
 module _ (file : List ℕ) (strings : FileRange) (o : ℕ) (i : SymbolIndex) where
-  pub string-low : o < 4 → Refused (Name i) ≡ string_room file strings o i
+  pub string-low : o < 4 → Err (Name i) ≡ string_room file strings o i
   unfolding string_room
   string-low h = rw (lt-ltb o 4 h)
 
   -- no zero, or no byte, is left in the table
-  pub string-open : strings.length - o ≤ first_zero (drop o (bytes_of file strings)) → Refused (Name i) ≡ string_room file strings o i
+  pub string-open : strings.length - o ≤ first_zero (drop o (bytes_of file strings)) → Err (Name i) ≡ string_room file strings o i
   unfolding string_room
   string-open z =
-      either (λ a. Refused (Name i) ≡ a) (ltb o 4 || leb strings.length o) (λ _. refl)
+      either (λ (a : Result FileRange Refusal). Err (Name i) ≡ a) (ltb o 4 || leb strings.length o) (λ _. refl)
       (λ _. rw (le-leb (strings.length - o) (first_zero (drop o (bytes_of file strings))) z))
 
-  pub string-found : 4 ≤ o → o < strings.length → first_zero (drop o (bytes_of file strings)) < strings.length - o → Found (range (strings.start.0 + o) (strings.length - o)) ≡ string_room file strings o i
+  pub string-found : 4 ≤ o → o < strings.length → first_zero (drop o (bytes_of file strings)) < strings.length - o → Ok (range (strings.start.0 + o) (strings.length - o)) ≡ string_room file strings o i
   unfolding string_room
   string-found low h z = rw (le-ltb o 4 low, lt-leb strings.length o h, lt-leb (strings.length - o) _ z)
 
   -- what is found lies inside the table
-  pub string-below : verdict_of (string_room file strings o i) ≡ Accepted → o < strings.length
+  pub string-below : verdict_of (string_room file strings o i) ≡ Ok tt → o < strings.length
   unfolding string_room
   string-below =
-      either (λ a. verdict_of a ≡ Accepted → o < strings.length) (ltb o 4 || leb strings.length o) (λ _ e. not-accepted e)
+      either (λ (a : Result FileRange Refusal). verdict_of a ≡ Ok tt → o < strings.length) (ltb o 4 || leb strings.length o) (λ _ e. not-accepted e)
       (λ p _. leb-false strings.length o (or-second (ltb o 4) (leb strings.length o) p))
 
-  pub string-accepted : verdict_of (string_room file strings o i) ≡ Accepted → Found (range (strings.start.0 + o) (strings.length - o)) ≡ string_room file strings o i
+  pub string-accepted : verdict_of (string_room file strings o i) ≡ Ok tt → Ok (range (strings.start.0 + o) (strings.length - o)) ≡ string_room file strings o i
   unfolding string_room
   string-accepted =
-      let P : RangeAnswer → Type 0 = λ a. verdict_of a ≡ Accepted → Found (range (strings.start.0 + o) (strings.length - o)) ≡ a in
+      let P : Result FileRange Refusal → Type 0 = λ a. verdict_of a ≡ Ok tt → Ok (range (strings.start.0 + o) (strings.length - o)) ≡ a in
       either P (ltb o 4 || leb strings.length o) (λ _ e. not-accepted e)
       (λ _. either P (leb (strings.length - o) (first_zero (drop o (bytes_of file strings)))) (λ _ e. not-accepted e) (λ _ _. refl))
 
   -- the same by the place of the last zero
   module _ (inside : strings.start.0 + strings.length ≤ length file) where
-    pub string-unended : zero_end (bytes_of file strings) ≤ o → Refused (Name i) ≡ string_room file strings o i
+    pub string-unended : zero_end (bytes_of file strings) ≤ o → Err (Name i) ≡ string_room file strings o i
     string-unended h = string-open (rw (length_part file strings inside) at (zero-unknown (bytes_of file strings) o h))
 
-    pub string-ended : 4 ≤ o → o < zero_end (bytes_of file strings) → Accepted ≡ verdict_of (string_room file strings o i)
+    pub string-ended : 4 ≤ o → o < zero_end (bytes_of file strings) → (Ok tt) ≡ verdict_of (string_room file strings o i)
     string-ended low h =
         let w = zero-end-within (bytes_of file strings) in
         let n = length_part file strings inside in
@@ -93,7 +92,7 @@ name-judged file t i e o = by_field e.name
     h : TablesInside file t
     h = tables-inside file t o
 
-    by-string : (z : Bool) (r : FileRange) → verdict_of (cond z (Found r) (Refused (Name i))) ≡ refuse_if (not z) (Name i)
+    by-string : (z : Bool) (r : FileRange) → verdict_of (cond z (Ok r) (Err (Name i))) ≡ refuse_if (not z) (Name i)
     by-string true r = refl
     by-string false r = refl
 
@@ -101,7 +100,7 @@ name-judged file t i e o = by_field e.name
     by-class a true = by-string (has_string t.format file t.debug a) (string_range t.format file t.debug a)
     by-class a false = rw h.ends (string-judged file t.strings a i h.strings)
 
-    by-offset : (a : ℕ) (z : Bool) → verdict_of (cond z (Found (range 0 0)) (cond (is_debug_class e.sclass) (debug_room file t a i) (string_room file t.strings a i))) ≡ refuse_if (not (z || cond (is_debug_class e.sclass) (has_string t.format file t.debug a) (leb 4 a && ltb a t.ends))) (Name i)
+    by-offset : (a : ℕ) (z : Bool) → verdict_of (cond z (Ok (range 0 0)) (cond (is_debug_class e.sclass) (debug_room file t a i) (string_room file t.strings a i))) ≡ refuse_if (not (z || cond (is_debug_class e.sclass) (has_string t.format file t.debug a) (leb 4 a && ltb a t.ends))) (Name i)
     by-offset a true = refl
     by-offset a false = by-class a (is_debug_class e.sclass)
 
@@ -111,20 +110,20 @@ name-judged file t i e o = by_field e.name
 
 -- ---- the bytes that a name may take, where NAME accepts
 
-module _ (file : List ℕ) (t : Tables) (i : SymbolIndex) (sclass o : ℕ) (e : verdict_of (room_by file t i sclass (Offset o)) ≡ Accepted) (h : o ≡ 0 → ⊥) where
+module _ (file : List ℕ) (t : Tables) (i : SymbolIndex) (sclass o : ℕ) (e : verdict_of (room_by file t i sclass (Offset o)) ≡ Ok tt) (h : o ≡ 0 → ⊥) where
   -- of a debug class
   module _ (d : is_debug_class sclass ≡ true) where
-    debug-by : (z : Bool) (r : FileRange) → verdict_of (cond z (Found r) (Refused (Name i))) ≡ Accepted → (z ≡ true) × (Found r ≡ cond z (Found r) (Refused (Name i)))
+    debug-by : (z : Bool) (r : FileRange) → verdict_of (cond z (Ok r) (Err (Name i))) ≡ Ok tt → (z ≡ true) × (Ok r ≡ cond z (Ok r) (Err (Name i)))
     debug-by true r k = (refl, refl)
     debug-by false r k = not-accepted k
 
-    debug-both : (has_string t.format file t.debug o ≡ true) × (Found (string_range t.format file t.debug o) ≡ debug_room file t o i)
+    debug-both : (has_string t.format file t.debug o ≡ true) × (Ok (string_range t.format file t.debug o) ≡ debug_room file t o i)
     debug-both = unfold room_by debug_room in debug-by (has_string t.format file t.debug o) (string_range t.format file t.debug o) (rw (ne_eqb o 0 h, d) at e)
 
     pub debug-named : has_string t.format file t.debug o ≡ true
     debug-named = debug-both.0
 
-    pub debug-room : {r : FileRange} → r ≡ string_range t.format file t.debug o → Found r ≡ room_by file t i sclass (Offset o)
+    pub debug-room : {r : FileRange} → r ≡ string_range t.format file t.debug o → Ok r ≡ room_by file t i sclass (Offset o)
     unfolding room_by
     debug-room q = rw (ne_eqb o 0 h, d, q) debug-both.1
 
@@ -134,7 +133,7 @@ module _ (file : List ℕ) (t : Tables) (i : SymbolIndex) (sclass o : ℕ) (e : 
     unfolding room_by
     offset-below = string-below file t.strings o i (rw (ne_eqb o 0 h, d) at e)
 
-    pub offset-room : {r : FileRange} → r ≡ range (t.strings.start.0 + o) (t.strings.length - o) → Found r ≡ room_by file t i sclass (Offset o)
+    pub offset-room : {r : FileRange} → r ≡ range (t.strings.start.0 + o) (t.strings.length - o) → Ok r ≡ room_by file t i sclass (Offset o)
     unfolding room_by
     offset-room q = rw (ne_eqb o 0 h, d, q) (string-accepted file t.strings o i (rw (ne_eqb o 0 h, d) at e))
 

@@ -9,18 +9,18 @@ use Rattle.word.specs.Zero.{zero_end}
 use Rattle.format.specs.Layout.{symbol_length}
 use Rattle.format.specs.Limit.{file_limit, section_limit}
 use Rattle.format.specs.Range.{bytes_of}
-use Rattle.refusal.specs.declared.Verdict.TheVariants.{Accepted}
 use Rattle.header.specs.declared.Opened.{Opened}
 use Rattle.header.specs.declared.Summary.{Summary}
 use Rattle.header.specs.Open.{open_of}
 use Rattle.header.specs.Inside.{Inside}
 use Rattle.header.proofs.Accepted.{opened_inside}
-use Rattle.debug_section.specs.declared.DebugSection.{DebugSection}
 use Rattle.debug_section.specs.Debug.{debug_of, DebugInside}
 use Rattle.visibility.specs.Visibility.{has_version2}
 use Rattle.debug_section.proofs.Sections.{debug-inside}
 use Rattle.symbol.specs.declared.Tables.{Tables}
 use Rattle.symbol.specs.Entry.{OpenTables, entry_start}
+use Rattle.std.specs.Prelude.{Ok, Option}
+use Rattle.format.specs.declared.FileRange.{FileRange}
 
 -- they are inside the file, and `ends` is the strings' own
 pub record TablesInside (file : List ℕ) (t : Tables) : Type 0 where
@@ -40,10 +40,10 @@ pub entry_whole : (file : List ℕ) (t : Tables) (i : ℕ) → OpenTables file t
 entry_whole file t i o k = let h = tables-inside file t o in omega (arith, h.symbols)
 
 -- of an answer of opening that accepts: what `tables_of` asks for, and what it gives
-pub opened-tables : (file : List ℕ) {o : Opened} → o ≡ open_of file → o.verdict ≡ Accepted → ((open_of file).verdict ≡ Accepted) × (o.summary ≡ (open_of file).summary)
+pub opened-tables : (file : List ℕ) {o : Opened} → o ≡ open_of file → o.verdict ≡ Ok tt → ((open_of file).verdict ≡ Ok tt) × (o.summary ≡ (open_of file).summary)
 opened-tables file e k = (rw e at k, rw e refl)
 
-module _ (file : List ℕ) {y : Summary} (k : (open_of file).verdict ≡ Accepted) (e : y ≡ (open_of file).summary) where
+module _ (file : List ℕ) {y : Summary} (k : (open_of file).verdict ≡ Ok tt) (e : y ≡ (open_of file).summary) where
   pub strings-inside : y.symbols.strings.start.0 + y.symbols.strings.length ≤ length file
   strings-inside = rw e (opened_inside file k).strings
 
@@ -53,6 +53,6 @@ module _ (file : List ℕ) {y : Summary} (k : (open_of file).verdict ≡ Accepte
   pub summary-inside : Inside file y
   summary-inside = rw e (opened_inside file k)
 
-  pub tables-open : {n : ℕ} {d : DebugSection} {v : Bool} → n ≡ zero_end (bytes_of file y.symbols.strings) → d ≡ debug_of y → v ≡ has_version2 file y
+  pub tables-open : {n : ℕ} {d : Option FileRange} {v : Bool} → n ≡ zero_end (bytes_of file y.symbols.strings) → d ≡ debug_of y → v ≡ has_version2 file y
       → OpenTables file (record { format = y.format; nscns = y.count; start = y.symbols.start; count = y.symbols.count; strings = y.symbols.strings; ends = n; debug = d; version2 = v })
   tables-open z q v = record { accepted = k; tables = rw (z, q, v, e) refl }

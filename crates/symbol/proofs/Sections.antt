@@ -10,13 +10,13 @@ use Rattle.word.specs.Signed.{signed16, lebℤ}
 use Rattle.word.proofs.Test.{and_first}
 use Rattle.format.specs.declared.SymbolIndex.{SymbolIndex}
 use Rattle.refusal.specs.declared.Refusal.TheVariants.{Scnum}
-use Rattle.refusal.specs.declared.Verdict.TheVariants as verdict
 use Rattle.refusal.proofs.Order.{accepted-test}
 use Rattle.symbol.specs.declared.Tables.{Tables}
 use Rattle.symbol.specs.declared.SymbolEntry.{SymbolEntry}
 use Rattle.symbol.specs.declared.SymbolSection.TheVariants.{Debug, Absolute, Undefined, In}
 use Rattle.symbol.specs.Symbol.{scnum_of, section_of, section_in, is_section, scnum_check, symbol_of}
 use mathlib.Core.Bool.{not, ◌&&◌}
+use Rattle.std.specs.Prelude.{Ok}
 
 -- ---- SECTION's test
 
@@ -76,7 +76,7 @@ number-kept (negsuc zero) e = refl
 number-kept (negsuc (suc zero)) e = refl
 number-kept (negsuc (suc (suc n))) e = absurd (omega (arith, leb-true (suc (suc n)) 1 e))
 
-pub scnum-kept : (t : Tables) (nscns : ℕ) (i : SymbolIndex) (e : SymbolEntry) → scnum_check nscns i e ≡ verdict.Accepted → scnum_of (symbol_of t e).section ≡ signed16 e.scnum
+pub scnum-kept : (t : Tables) (nscns : ℕ) (i : SymbolIndex) (e : SymbolEntry) → scnum_check nscns i e ≡ Ok tt → scnum_of (symbol_of t e).section ≡ signed16 e.scnum
 unfolding scnum_check is_section symbol_of section_in
 scnum-kept t nscns i e k =
     let s = signed16 e.scnum in

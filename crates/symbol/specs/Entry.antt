@@ -1,5 +1,5 @@
 -- A symbol table entry: what its 18 bytes hold, and the tables that it is judged by.
-use Rattle.std.specs.Prelude.{ℕ, ◌+◌, ◌*◌, ◌≡◌, List}
+use Rattle.std.specs.Prelude.{ℕ, ◌+◌, ◌*◌, ◌≡◌, List, Ok}
 use Rattle.word.specs.Number.{field_in}
 use Rattle.word.specs.Zero.{zero_end}
 use Rattle.format.specs.declared.Format.{Format}
@@ -7,7 +7,6 @@ use Rattle.format.specs.declared.SymbolIndex.{SymbolIndex}
 use Rattle.format.specs.Name.{name_field}
 use Rattle.format.specs.Layout.{symbol_layout, symbol_length}
 use Rattle.format.specs.Range.{bytes_of}
-use Rattle.refusal.specs.declared.Verdict.TheVariants.{Accepted}
 use Rattle.header.specs.declared.Summary.{Summary}
 use Rattle.header.specs.Open.{open_of}
 use Rattle.debug_section.specs.Debug.{debug_of}
@@ -35,7 +34,7 @@ tables_at file = tables_of file (open_of file).summary
 
 -- t has the tables of an accepted file: what every function over an opened file asks for
 pub record OpenTables (file : List ℕ) (t : Tables) : Type 0 where
-  pub accepted : (open_of file).verdict ≡ Accepted
+  pub accepted : (open_of file).verdict ≡ Ok tt
   pub tables : t ≡ tables_at file
 
 -- where the entry with index i starts

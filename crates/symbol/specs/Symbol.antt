@@ -1,14 +1,10 @@
 -- A symbol read at an index: INDEX, AUX, SECTION, NAME, VISIBILITY.
-use Rattle.std.specs.Prelude.{ℕ, zero, suc, ◌+◌, Bool, not, ◌&&◌, List, [], ◌∷◌, leb, ℤ, pos, negsuc}
+use Rattle.std.specs.Prelude.{ℕ, zero, suc, ◌+◌, Bool, not, ◌&&◌, List, [], ◌∷◌, leb, ℤ, pos, negsuc, Err, Ok, Result}
 use Rattle.word.specs.Signed.{signed16, lebℤ}
 use Rattle.word.specs.Test.{past}
 use Rattle.format.specs.declared.SymbolIndex.{SymbolIndex}
 use Rattle.refusal.specs.declared.Refusal.TheVariants.{Index, Aux, Scnum, Visibility}
 use Rattle.refusal.specs.declared.IndexItem.TheVariants.{NoSymbol}
-use Rattle.refusal.specs.declared.RangeAnswer.{RangeAnswer}
-use Rattle.refusal.specs.declared.RangeAnswer.TheVariants as range
-use Rattle.refusal.specs.declared.Verdict.{Verdict}
-use Rattle.refusal.specs.declared.Verdict.TheVariants as verdict
 use Rattle.refusal.specs.Order.{◌or_else◌, refuse_if, first_refusal, by_verdict}
 use Rattle.visibility.specs.Visibility.{is_unknown, visibility_of}
 use Rattle.symbol.specs.declared.Tables.{Tables}
@@ -16,10 +12,11 @@ use Rattle.symbol.specs.declared.SymbolEntry.{SymbolEntry}
 use Rattle.symbol.specs.declared.SymbolSection.{SymbolSection}
 use Rattle.symbol.specs.declared.SymbolSection.TheVariants.{Debug, Absolute, Undefined, In}
 use Rattle.symbol.specs.declared.Symbol.{Symbol}
-use Rattle.symbol.specs.declared.SymbolAnswer.{SymbolAnswer}
-use Rattle.symbol.specs.declared.SymbolAnswer.TheVariants.{Found, Refused}
 use Rattle.symbol.specs.Entry.{entry_of}
 use Rattle.symbol.specs.Name.{room_in}
+use Rattle.refusal.specs.declared.Refusal.{Refusal}
+use Rattle.format.specs.declared.FileRange.{FileRange}
+use Rattle.refusal.specs.Verdict.{Verdict}
 
 -- ---- the section that `n_scnum` names, by its signed number
 
@@ -58,9 +55,9 @@ unfoldable pub scnum_check : ℕ → SymbolIndex → SymbolEntry → Verdict
 scnum_check nscns i e = refuse_if (not (is_section nscns e.scnum)) (Scnum i)
 
 -- the verdict that an answer with a part of the file stands for
-abbrev pub verdict_of : RangeAnswer → Verdict
-verdict_of (range.Found r) = verdict.Accepted
-verdict_of (range.Refused x) = verdict.Refused x
+abbrev pub verdict_of : Result FileRange Refusal → Verdict
+verdict_of (Ok r) = Ok tt
+verdict_of (Err x) = Err x
 
 -- NAME: the name lies nowhere
 unfoldable pub name_check : List ℕ → Tables → SymbolIndex → SymbolEntry → Verdict
@@ -92,5 +89,5 @@ symbol_of t e =
       visibility = visibility_of t.version2 e.sclass e.ntype;
     }
 
-unfoldable pub symbol_in : List ℕ → Tables → SymbolIndex → SymbolAnswer
-symbol_in file t i = by_verdict (symbol_check file t i (entry_of file t i)) (Found (symbol_of t (entry_of file t i))) Refused
+unfoldable pub symbol_in : List ℕ → Tables → SymbolIndex → Result Symbol Refusal
+symbol_in file t i = by_verdict (symbol_check file t i (entry_of file t i)) (Ok (symbol_of t (entry_of file t i))) Err

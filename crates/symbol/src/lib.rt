@@ -13,11 +13,9 @@ ghost use Rattle.symbol.specs.Entry.{OpenTables, entry_at, entry_of};
 ghost use Rattle.symbol.specs.Name.{is_debug_class, room_in, has_name};
 ghost use Rattle.symbol.specs.Symbol.{is_section, name_check, symbol_checks, section_in, symbol_of, symbol_in};
 
-use debug_section::DebugSection;
 use format::{FileOffset, FileRange, Format, NameField, SectionNumber, SymbolIndex};
 use header::Summary;
-use refusal::{IndexItem, RangeAnswer, Refusal, Verdict};
-use visibility::Visibility;
+use refusal::{IndexItem, Refusal};
 
 // All that entries and their names are judged by: where symbols and strings lie in an opened file, one past the last zero of
 // the strings, the debug section, and whether types may have a visibility. Exactly the offsets below `ends` have a zero at or
@@ -30,7 +28,7 @@ pub struct Tables {
     pub count: u64,
     pub strings: FileRange,
     pub ends: u64,
-    pub debug: DebugSection,
+    pub debug: Option<FileRange>,
     pub version2: bool,
 }
 
@@ -61,13 +59,8 @@ pub struct Symbol {
     pub ntype: u64,
     pub sclass: u64,
     pub numaux: u64,
-    pub visibility: Visibility,
-}
-
-#[derive(Clone, Copy)]
-pub enum SymbolAnswer {
-    Found(Symbol),
-    Refused(Refusal),
+    // none where no visibility is claimed
+    pub visibility: Option<u64>,
 }
 
 fn names_end(file: &[u8], strings: FileRange) -> u64
@@ -82,7 +75,7 @@ fn names_end(file: &[u8], strings: FileRange) -> u64
 
 // The tables of a file that is open, with its summary.
 pub fn tables_of(file: &[u8], y: Summary) -> Tables
-    requires { ((open_of file.now).verdict ≡ Verdict.Accepted) × (y ≡ (open_of file.now).summary) }
+    requires { ((open_of file.now).verdict ≡ Ok tt) × (y ≡ (open_of file.now).summary) }
     ensures { OpenTables file.now result }
 {
     let format = y.format;
@@ -190,8 +183,8 @@ fn string_room(strings: FileRange, o: u64) -> FileRange
 // The bytes that the name of the entry `e` at the index `i` may take: it ends at the first zero in them. That zero is not looked
 // for: many symbols may share one long string, and a listing that read it for each would not be linear.
 pub fn name_room(file: &[u8], t: Tables, i: SymbolIndex, e: SymbolEntry) -> FileRange
-    requires { OpenTables file.now t × (i.0 < t.count) × (name_check file.now t i e ≡ Verdict.Accepted) }
-    ensures { RangeAnswer.Found result ≡ room_in file.now t i e }
+    requires { OpenTables file.now t × (i.0 < t.count) × (name_check file.now t i e ≡ Ok tt) }
+    ensures { Ok result ≡ room_in file.now t i e }
 {
     let name = e.name;
     match name {
@@ -225,24 +218,24 @@ pub fn name_room(file: &[u8], t: Tables, i: SymbolIndex, e: SymbolEntry) -> File
 }
 
 // AUX, SECTION, NAME and VISIBILITY of the entry `e` at the index `i`, in this order.
-pub fn check_entry(file: &[u8], t: Tables, i: SymbolIndex, e: SymbolEntry) -> Verdict
+pub fn check_entry(file: &[u8], t: Tables, i: SymbolIndex, e: SymbolEntry) -> Result<(), Refusal>
     requires { OpenTables file.now t × (i.0 < t.count) }
     ensures { result ≡ first_refusal (symbol_checks file.now t i e) }
 {
     if word::ends_past(i.0 + 1, e.numaux, t.count) {
-        return Verdict::Refused(Refusal::Aux(i));
+        return Err(Refusal::Aux(i));
     }
     if !is_section(t.nscns, e.scnum) {
-        return Verdict::Refused(Refusal::Scnum(i));
+        return Err(Refusal::Scnum(i));
     }
     let name = e.name;
     if !has_name(file, t, e.sclass, name) {
-        return Verdict::Refused(Refusal::Name(i));
+        return Err(Refusal::Name(i));
     }
     if visibility::is_unknown(t.version2, e.sclass, e.ntype) {
-        return Verdict::Refused(Refusal::Visibility(i));
+        return Err(Refusal::Visibility(i));
     }
-    Verdict::Accepted
+    Ok(())
 }
 
 fn section_in(scnum: u64) -> SymbolSection
@@ -274,17 +267,14 @@ fn symbol_of(t: Tables, e: SymbolEntry) -> Symbol
 }
 
 // The symbol at an index of a file that is open.
-pub fn symbol_in(file: &[u8], t: Tables, i: SymbolIndex) -> SymbolAnswer
+pub fn symbol_in(file: &[u8], t: Tables, i: SymbolIndex) -> Result<Symbol, Refusal>
     requires { OpenTables file.now t }
     ensures { result ≡ symbol_in file.now t i }
 {
     if t.count <= i.0 {
-        return SymbolAnswer::Refused(Refusal::Index(IndexItem::NoSymbol(i)));
+        return Err(Refusal::Index(IndexItem::NoSymbol(i)));
     }
     let e = entry_in(file, t, i);
-    let v = check_entry(file, t, i, e);
-    match v {
-        Verdict::Refused(x) => SymbolAnswer::Refused(x),
-        Verdict::Accepted => SymbolAnswer::Found(symbol_of(t, e)),
-    }
+    check_entry(file, t, i, e)?;
+    Ok(symbol_of(t, e))
 }

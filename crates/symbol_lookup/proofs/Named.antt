@@ -4,10 +4,6 @@ use mathlib.Core.Path.{◌≡◌, refl}
 use mathlib.Core.List.{List}
 use native.Mathlib.Omega.{arith}
 use Rattle.format.specs.declared.SymbolIndex.{SymbolIndex}
-use Rattle.refusal.specs.declared.RangeAnswer.{RangeAnswer}
-use Rattle.refusal.specs.declared.RangeAnswer.TheVariants as range
-use Rattle.refusal.specs.declared.Verdict.{Verdict}
-use Rattle.refusal.specs.declared.Verdict.TheVariants as verdict
 use Rattle.refusal.specs.Order.{by_verdict}
 use Rattle.refusal.proofs.Order.{not-accepted}
 use Rattle.refusal.proofs.Causes.{Causes, RangeCauses}
@@ -15,14 +11,16 @@ use Rattle.offset.specs.Named.{Named}
 use Rattle.header.specs.Open.{open_of}
 use Rattle.header.proofs.Named.{opened-named}
 use Rattle.symbol.specs.declared.Symbol.{Symbol}
-use Rattle.symbol.specs.declared.SymbolAnswer.{SymbolAnswer}
-use Rattle.symbol.specs.declared.SymbolAnswer.TheVariants.{Found, Refused}
 use Rattle.symbol.specs.Entry.{tables_at, entry_of}
 use Rattle.symbol.specs.Name.{room_in, name_from, name_in}
 use Rattle.symbol.specs.Symbol.{verdict_of, name_check, symbol_in}
 use Rattle.symbol.proofs.Checks.{symbol-accepted}
 use Rattle.symbol.proofs.Named.{SymbolCauses, symbol-in-named}
 use Rattle.symbol_lookup.specs.Lookup.{symbol_at, name_behind, symbol_name_at}
+use Rattle.std.specs.Prelude.{Err, Ok, Result}
+use Rattle.refusal.specs.declared.Refusal.{Refusal}
+use Rattle.format.specs.declared.FileRange.{FileRange}
+use Rattle.refusal.specs.Verdict.{Verdict}
 
 module _ (file : List ℕ) where
   -- request 4: of a symbol
@@ -30,21 +28,21 @@ module _ (file : List ℕ) where
   unfolding symbol_at
   symbol-at-named i = by (open_of file).verdict refl (opened-named file)
     where
-      by : (v : Verdict) → (open_of file).verdict ≡ v → Causes (Named file) v → SymbolCauses (Named file) (by_verdict v (symbol_in file (tables_at file) i) Refused)
-      by verdict.Accepted e c = symbol-in-named file (tables_at file) (record { accepted = e; tables = refl }) i
-      by (verdict.Refused x) e c = c
+      by : (v : Verdict) → (open_of file).verdict ≡ v → Causes (Named file) v → SymbolCauses (Named file) (by_verdict v (symbol_in file (tables_at file) i) Err)
+      by (Ok tt) e c = symbol-in-named file (tables_at file) (record { accepted = e; tables = refl }) i
+      by (Err x) e c = c
 
   -- ---- its name: that of a symbol that is found lies somewhere
 
-  room-found : (a : RangeAnswer) → verdict_of a ≡ verdict.Accepted → RangeCauses (Named file) (name_from file a)
-  room-found (range.Found r) e = tt
-  room-found (range.Refused x) e = not-accepted e
+  room-found : (a : Result FileRange Refusal) → verdict_of a ≡ Ok tt → RangeCauses (Named file) (name_from file a)
+  room-found (Ok r) e = tt
+  room-found (Err x) e = not-accepted e
 
-  in_table : (i : SymbolIndex) (s : Symbol) (v : Verdict) → by_verdict v (symbol_in file (tables_at file) i) Refused ≡ Found s → symbol_in file (tables_at file) i ≡ Found s
-  in_table i s verdict.Accepted e = e
-  in_table i s (verdict.Refused x) e = let z : ◌≡◌ {A = ℕ} 0 1 = cc in absurd (omega arith)
+  in_table : (i : SymbolIndex) (s : Symbol) (v : Verdict) → by_verdict v (symbol_in file (tables_at file) i) Err ≡ Ok s → symbol_in file (tables_at file) i ≡ Ok s
+  in_table i s (Ok tt) e = e
+  in_table i s (Err x) e = let z : ◌≡◌ {A = ℕ} 0 1 = cc in absurd (omega arith)
 
-  name-found : (i : SymbolIndex) (s : Symbol) → symbol_at file i ≡ Found s → RangeCauses (Named file) (name_in file (tables_at file) i (entry_of file (tables_at file) i))
+  name-found : (i : SymbolIndex) (s : Symbol) → symbol_at file i ≡ Ok s → RangeCauses (Named file) (name_in file (tables_at file) i (entry_of file (tables_at file) i))
   unfolding symbol_at name_check
   name-found i s e =
       let t = tables_at file in
@@ -55,6 +53,6 @@ module _ (file : List ℕ) where
   unfolding symbol_name_at name_behind
   symbol-name-named i = by (symbol_at file i) refl (symbol-at-named i)
     where
-      by : (a : SymbolAnswer) → symbol_at file i ≡ a → SymbolCauses (Named file) a → RangeCauses (Named file) (name_behind file (tables_at file) i a)
-      by (Found s) e c = name-found i s e
-      by (Refused x) e c = c
+      by : (a : Result Symbol Refusal) → symbol_at file i ≡ a → SymbolCauses (Named file) a → RangeCauses (Named file) (name_behind file (tables_at file) i a)
+      by (Ok s) e c = name-found i s e
+      by (Err x) e c = c

@@ -13,10 +13,10 @@ use Rattle.word.proofs.Zero.{zero-within}
 use Rattle.format.specs.declared.FileRange.{FileRange}
 use Rattle.format.specs.Range.{bytes_of, text_of}
 use Rattle.format.proofs.Ranges.{length_part}
-use Rattle.refusal.specs.declared.RangeAnswer.{RangeAnswer}
-use Rattle.refusal.specs.declared.RangeAnswer.TheVariants.{Found, Refused}
 use Rattle.refusal.specs.Part.{range_bytes, Within}
 use Rattle.symbol.specs.Name.{name_from}
+use Rattle.std.specs.Prelude.{Err, Ok, Result}
+use Rattle.refusal.specs.declared.Refusal.{Refusal}
 
 -- ---- where a name lies
 
@@ -46,11 +46,11 @@ text-no-zero file r k h e =
     let v = length-take m (drop p file) in
     zero-before s k (omega arith) (get_or-take m (drop p file) k 0 (omega arith) ∙ sym (get_or-take n (drop p file) k 0 (omega arith)) ∙ e)
 
-pub name-no-zero-in : (file : List ℕ) (a : RangeAnswer) → NoZero (range_bytes file (name_from file a))
-name-no-zero-in file (Refused x) = λ k h. absurd (omega arith)
-name-no-zero-in file (Found r) = text-no-zero file r
+pub name-no-zero-in : (file : List ℕ) (a : Result FileRange Refusal) → NoZero (range_bytes file (name_from file a))
+name-no-zero-in file (Err x) = λ k h. absurd (omega arith)
+name-no-zero-in file (Ok r) = text-no-zero file r
 
 -- a name is no longer than the bytes that it may take
-pub name-within-room : (file : List ℕ) (a : RangeAnswer) → Within (length file) a → Within (length file) (name_from file a)
-name-within-room file (Refused x) h = tt
-name-within-room file (Found r) h = omega (arith, zero-within (bytes_of file r), length_part file r h)
+pub name-within-room : (file : List ℕ) (a : Result FileRange Refusal) → Within (length file) a → Within (length file) (name_from file a)
+name-within-room file (Err x) h = tt
+name-within-room file (Ok r) h = omega (arith, zero-within (bytes_of file r), length_part file r h)

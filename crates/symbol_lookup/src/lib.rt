@@ -6,12 +6,11 @@ ghost use Rattle.offset.specs.Report.{report_of_range};
 ghost use Rattle.refusal.specs.Part.{range_bytes};
 ghost use Rattle.symbol.specs.Entry.{OpenTables};
 ghost use Rattle.symbol.specs.Symbol.{scnum_of, symbol_in};
-ghost use Rattle.symbol_lookup.specs.Lookup.{symbol_at, name_behind, symbol_name_at, signed64, claims, visibility_number, report_of_symbol, symbol_report};
+ghost use Rattle.symbol_lookup.specs.Lookup.{symbol_at, name_behind, symbol_name_at, signed64, claims, report_of_symbol, symbol_report};
 
-use format::SymbolIndex;
-use refusal::{Head, RangeAnswer, Refusal, Verdict};
-use symbol::{SymbolAnswer, SymbolSection, Tables};
-use visibility::Visibility;
+use format::{FileRange, SymbolIndex};
+use refusal::{Head, Refusal};
+use symbol::{Symbol, SymbolSection, Tables};
 
 // `scnum` is signed, in two's complement; `visibility` is 0 where `has_visibility` is.
 #[repr(C)]
@@ -28,53 +27,38 @@ pub struct SymbolReport {
 }
 
 // The symbol at an index: opening's refusals, then INDEX, AUX, SECTION, NAME, VISIBILITY.
-pub fn symbol_at(file: &[u8], i: SymbolIndex) -> SymbolAnswer
+pub fn symbol_at(file: &[u8], i: SymbolIndex) -> Result<Symbol, Refusal>
     ensures cause { result ≡ symbol_at file.now i }
     ensures report { report_of_symbol file.now result ≡ symbol_report file.now i }
 {
     let o = header::open(file);
-    let v = o.verdict;
-    match v {
-        Verdict::Refused(x) => SymbolAnswer::Refused(x),
-        Verdict::Accepted => {
-            let y = o.summary;
-            let t = symbol::tables_of(file, y);
-            symbol::symbol_in(file, t, i)
-        }
-    }
+    o.verdict?;
+    let y = o.summary;
+    let t = symbol::tables_of(file, y);
+    symbol::symbol_in(file, t, i)
 }
 
 // Where the name of the symbol at an index of a file that is open lies.
-fn name_in(file: &[u8], t: Tables, i: SymbolIndex) -> RangeAnswer
+fn name_in(file: &[u8], t: Tables, i: SymbolIndex) -> Result<FileRange, Refusal>
     requires { OpenTables file.now t }
     ensures { result ≡ name_behind file.now t i (symbol_in file.now t i) }
 {
-    let a = symbol::symbol_in(file, t, i);
-    match a {
-        SymbolAnswer::Refused(x) => RangeAnswer::Refused(x),
-        SymbolAnswer::Found(_) => {
-            let e = symbol::entry_in(file, t, i);
-            let room = symbol::name_room(file, t, i, e);
-            RangeAnswer::Found(format::text_of(file, room))
-        }
-    }
+    symbol::symbol_in(file, t, i)?;
+    let e = symbol::entry_in(file, t, i);
+    let room = symbol::name_room(file, t, i, e);
+    Ok(format::text_of(file, room))
 }
 
 // Where the name of the symbol at an index lies; the refusals are those of `symbol_at`.
-pub fn symbol_name_range(file: &[u8], i: SymbolIndex) -> RangeAnswer
+pub fn symbol_name_range(file: &[u8], i: SymbolIndex) -> Result<FileRange, Refusal>
     ensures cause { result ≡ symbol_name_at file.now i }
     ensures report { report_of_range file.now result ≡ report_of_range file.now (symbol_name_at file.now i) }
 {
     let o = header::open(file);
-    let v = o.verdict;
-    match v {
-        Verdict::Refused(x) => RangeAnswer::Refused(x),
-        Verdict::Accepted => {
-            let y = o.summary;
-            let t = symbol::tables_of(file, y);
-            name_in(file, t, i)
-        }
-    }
+    o.verdict?;
+    let y = o.summary;
+    let t = symbol::tables_of(file, y);
+    name_in(file, t, i)
 }
 
 // The name of the symbol at an index: the very bytes of the file, none on a refusal.
@@ -96,29 +80,17 @@ fn scnum_of(s: SymbolSection) -> u64
     }
 }
 
-fn is_claimed(v: Visibility) -> bool
+fn is_claimed(v: Option<u64>) -> bool
     ensures { result ≡ claims v }
 {
-    match v {
-        Visibility::NotClaimed => false,
-        Visibility::Claimed(_) => true,
-    }
+    v.is_some()
 }
 
-fn bits_of(v: Visibility) -> u64
-    ensures { result ≡ visibility_number v }
-{
-    match v {
-        Visibility::NotClaimed => 0,
-        Visibility::Claimed(n) => n,
-    }
-}
-
-pub fn report_symbol(file: &[u8], a: SymbolAnswer) -> SymbolReport
+pub fn report_symbol(file: &[u8], a: Result<Symbol, Refusal>) -> SymbolReport
     ensures { result ≡ report_of_symbol file.now a }
 {
     match a {
-        SymbolAnswer::Refused(x) => SymbolReport {
+        Err(x) => SymbolReport {
             head: offset::refusal_head(file, x),
             value: 0,
             scnum: 0,
@@ -128,7 +100,7 @@ pub fn report_symbol(file: &[u8], a: SymbolAnswer) -> SymbolReport
             has_visibility: 0,
             visibility: 0,
         },
-        SymbolAnswer::Found(s) => {
+        Ok(s) => {
             let section = s.section;
             let v = s.visibility;
             SymbolReport {
@@ -139,7 +111,7 @@ pub fn report_symbol(file: &[u8], a: SymbolAnswer) -> SymbolReport
                 sclass: s.sclass,
                 numaux: s.numaux,
                 has_visibility: refusal::one_if(is_claimed(v)),
-                visibility: bits_of(v),
+                visibility: v.unwrap_or(0),
             }
         }
     }

@@ -8,20 +8,15 @@ use lib.ListN.{length, length-append}
 use lib.Seq.{sets, length-sets}
 use Rattle.format.specs.declared.SymbolIndex.{SymbolIndex}
 use Rattle.refusal.specs.declared.Refusal.{Refusal}
-use Rattle.refusal.specs.declared.Verdict.{Verdict}
-use Rattle.refusal.specs.declared.Verdict.TheVariants as verdict
 use Rattle.refusal.specs.Order.{◌or_else◌, by_verdict, if_accepted}
 use Rattle.header.specs.declared.Opened.{Opened}
 use Rattle.header.specs.Open.{open_of}
 use Rattle.symbol.specs.declared.Tables.{Tables}
 use Rattle.symbol.specs.declared.Symbol.{Symbol}
-use Rattle.symbol.specs.declared.SymbolAnswer.TheVariants as symbol
 use Rattle.symbol.specs.Entry.{tables_at, OpenTables}
 use Rattle.symbol.specs.Symbol.{symbol_in}
 use Rattle.symbol.proofs.Checks.{symbol-in-table}
 use Rattle.walk.specs.declared.WalkEnd.{WalkEnd}
-use Rattle.walk.specs.declared.WalkAnswer.{WalkAnswer}
-use Rattle.walk.specs.declared.WalkAnswer.TheVariants.{Ended, Refused}
 use Rattle.walk.specs.Walk.{visited_from, visited_in, walk_in, walk_of, report_of_walk, walk_report}
 use Rattle.walk.proofs.Steps.{visited-start, visited-next, walk-visited}
 use Rattle.update.proofs.Stores.{sets-append, sets-whole}
@@ -29,6 +24,8 @@ use Rattle.rows.specs.Rows.{room_check}
 use Rattle.rows.proofs.Laws.{room-exact}
 use Rattle.symbol_table.specs.Row.{symbol_row}
 use Rattle.symbol_table.specs.Table.{rows_along, rows_in, symbol_rows, room_for, table_check, symbol_table, symbols_after}
+use Rattle.std.specs.Prelude.{Err, Ok, Result}
+use Rattle.refusal.specs.Verdict.{Verdict}
 
 row-length : (file : List ℕ) (i : SymbolIndex) → length (symbol_row file i) ≡ 15
 unfolding symbol_row
@@ -63,7 +60,7 @@ module _ (file : List ℕ) (t : Tables) where
       sym (ap (λ (is : List SymbolIndex). sets l (visited * 15) (rows_along file is)) none) ∙ k.left ∙ sets-whole l₀ (rows_in file t) (sym e)
 
   -- a turn
-  module _ {l₀ : List ℕ} (l : List ℕ) (visited i : ℕ) (h : i < t.count) (k : Listing file t l₀ l visited i) {s : Symbol} (e : symbol_in file t (record { 0 = i }) ≡ symbol.Found s) where
+  module _ {l₀ : List ℕ} (l : List ℕ) (visited i : ℕ) (h : i < t.count) (k : Listing file t l₀ l visited i) {s : Symbol} (e : symbol_in file t (record { 0 = i }) ≡ Ok s) where
     row_next : rows_along file (visited_from file t (t.count - visited) i) ≡ symbol_row file (record { 0 = i }) ++ rows_along file (visited_from file t (t.count - (visited + 1)) (i + 1 + s.numaux))
     unfolding rows_along
     row_next = ap (rows_along file) (visited-next file t i visited k.few h e)
@@ -103,31 +100,31 @@ module _ (file : List ℕ) (t : Tables) where
     room-is : v ≡ room_for file t (length before)
     room-is = e ∙ ap (room_check (length before)) visited-is
 
-    pub room-known : v ≡ verdict.Accepted → length before ≡ length (rows_in file t)
+    pub room-known : v ≡ Ok tt → length before ≡ length (rows_in file t)
     room-known k = room-exact (length before) (15 * w.visited) (sym e ∙ k) ∙ visited-is ∙ sym (rows-length file (visited_in file t))
 
-    pub listed : {after : List ℕ} → v ≡ verdict.Accepted → after ≡ rows_in file t → (Ended w ≡ by_verdict (room_for file t (length before)) (Ended (walk_in file t)) Refused) × (after ≡ if_accepted (room_for file t (length before)) (rows_in file t) before)
-    listed k p = rw (← room-is, k) (ap Ended q, p)
+    pub listed : {after : List ℕ} → v ≡ Ok tt → after ≡ rows_in file t → (Ok w ≡ by_verdict (room_for file t (length before)) (Ok (walk_in file t)) Err) × (after ≡ if_accepted (room_for file t (length before)) (rows_in file t) before)
+    listed k p = rw (← room-is, k) (ap Ok q, p)
 
-    pub not_listed : {x : Refusal} → v ≡ verdict.Refused x → (Refused x ≡ by_verdict (room_for file t (length before)) (Ended (walk_in file t)) Refused) × (before ≡ if_accepted (room_for file t (length before)) (rows_in file t) before)
+    pub not_listed : {x : Refusal} → v ≡ Err x → (Err x ≡ by_verdict (room_for file t (length before)) (Ok (walk_in file t)) Err) × (before ≡ if_accepted (room_for file t (length before)) (rows_in file t) before)
     not_listed k = rw (← room-is, k) (refl, refl)
 
 -- what a listing ensures of its answer r and of what it leaves in the lent memory
-abbrev pub Lists : List ℕ → List ℕ → WalkAnswer → List ℕ → Type 0
+abbrev pub Lists : List ℕ → List ℕ → Result WalkEnd Refusal → List ℕ → Type 0
 Lists file before r after =
     (r ≡ symbol_table file (length before)) × ((report_of_walk file r ≡ report_of_walk file (symbol_table file (length before))) × (after ≡ symbols_after file before))
 
 module _ (file before : List ℕ) where
-  pub table-refused : {o : Opened} {x : Refusal} → o ≡ open_of file → o.verdict ≡ verdict.Refused x → Lists file before (Refused x) before
+  pub table-refused : {o : Opened} {x : Refusal} → o ≡ open_of file → o.verdict ≡ Err x → Lists file before (Err x) before
   table-refused {o} {x} e k = (answer, (ap (report_of_walk file) answer, after))
     where
-      answer : Refused x ≡ symbol_table file (length before)
+      answer : Err x ≡ symbol_table file (length before)
       answer = unfold symbol_table table_check in rw (rw e at k) refl
 
       after : before ≡ symbols_after file before
       after = unfold symbols_after table_check in rw (rw e at k) refl
 
-  pub table-listed : {t : Tables} {r : WalkAnswer} {after : List ℕ} → OpenTables file t → r ≡ by_verdict (room_for file t (length before)) (Ended (walk_in file t)) Refused → after ≡ if_accepted (room_for file t (length before)) (rows_in file t) before → Lists file before r after
+  pub table-listed : {t : Tables} {r : Result WalkEnd Refusal} {after : List ℕ} → OpenTables file t → r ≡ by_verdict (room_for file t (length before)) (Ok (walk_in file t)) Err → after ≡ if_accepted (room_for file t (length before)) (rows_in file t) before → Lists file before r after
   table-listed {t} {r} {after} o p z = (answer, (ap (report_of_walk file) answer, left))
     where
       answer : r ≡ symbol_table file (length before)
@@ -144,8 +141,8 @@ symbols-need file = by-verdict (open_of file).verdict
     t : Tables
     t = tables_at file
 
-    by-verdict : (v : Verdict) → (let w : WalkAnswer = by_verdict v (Ended (walk_in file t)) Refused in (by_verdict (v or_else room_for file t (15 * (report_of_walk file w).visited)) (Ended (walk_in file t)) Refused ≡ w) × (length (if_accepted v (rows_in file t) []) ≡ 15 * (report_of_walk file w).visited))
-    by-verdict (verdict.Refused x) = (refl, refl)
-    by-verdict verdict.Accepted =
+    by-verdict : (v : Verdict) → (let w : (Result WalkEnd Refusal) = by_verdict v (Ok (walk_in file t)) Err in (by_verdict (v or_else room_for file t (15 * (report_of_walk file w).visited)) (Ok (walk_in file t)) Err ≡ w) × (length (if_accepted v (rows_in file t) []) ≡ 15 * (report_of_walk file w).visited))
+    by-verdict (Err x) = (refl, refl)
+    by-verdict (Ok tt) =
         let e = ap (λ (n : ℕ). 15 * n) (walk-visited file t) in
         (rw (eq-eqb (15 * (walk_in file t).visited) (15 * length (visited_in file t)) e) refl, rows-length file (visited_in file t) ∙ sym e)

@@ -1,19 +1,18 @@
 -- The row of a symbol: what the look-ups of its index say, number by number.
-use Rattle.std.specs.Prelude.{ℕ, List, [], ◌∷◌}
+use Rattle.std.specs.Prelude.{ℕ, List, [], ◌∷◌, Err, Ok, Result}
 use Rattle.format.specs.declared.FileRange.{FileRange}
 use Rattle.format.specs.declared.SymbolIndex.{SymbolIndex}
 use Rattle.format.specs.Range.{range}
-use Rattle.refusal.specs.declared.RangeAnswer.{RangeAnswer}
-use Rattle.refusal.specs.declared.RangeAnswer.TheVariants.{Found, Refused}
 use Rattle.symbol.specs.Entry.{tables_at, entry_of}
 use Rattle.symbol.specs.Name.{room_in}
 use Rattle.symbol_lookup.specs.Lookup.{symbol_report}
 use Rattle.csect_lookup.specs.Lookup.{csect_report}
+use Rattle.refusal.specs.declared.Refusal.{Refusal}
 
 -- the bytes that the name of the symbol at index i of an accepted file may take: it ends at the first zero in them
-abbrev pub range_of : RangeAnswer → FileRange
-range_of (Found r) = r
-range_of (Refused x) = range 0 0
+abbrev pub range_of : Result FileRange Refusal → FileRange
+range_of (Ok r) = r
+range_of (Err x) = range 0 0
 
 unfoldable pub symbol_room : List ℕ → SymbolIndex → FileRange
 symbol_room file i = range_of (room_in file (tables_at file) i (entry_of file (tables_at file) i))

@@ -1,36 +1,32 @@
 -- What a list of calls answers and leaves: the laws of the loop over a script. Assumes nothing.
 use mathlib.Core.Path.{◌≡◌, refl, sym, ◌∙◌, ap}
+use Rattle.script.specs.Tally.{accepted_one}
+use Rattle.script.proofs.Loop.{accepted-one}
 use mathlib.Core.List.{List, [], ◌∷◌}
 use Prim.Native.Nat.{ℕ, suc, ◌+◌, ◌≤◌}
 use native.Mathlib.Omega.{arith}
 use native.Mathlib.Nat.{zero-add, add-zero}
 use lib.ListN.{length}
-use Rattle.address_book.specs.declared.NumberAnswer.{NumberAnswer}
-use Rattle.address_book.specs.declared.NumberAnswer.TheVariants.{Found, Refused}
 use Rattle.address_book.specs.Book.{Book}
-use Rattle.address_book.specs.Call.{Places, Call, Answer, number_of, answer_in, answer_of, after}
+use Rattle.address_book.specs.Call.{Places, Call, Answer, answer_in, after}
 use Rattle.address_book.specs.Run.{run, answers}
-use Rattle.address_table.specs.Table.{book_of, contents_after}
+use Rattle.address_table.specs.Table.{book_of}
 use Rattle.address_table.specs.Run.{contents_run}
 use Rattle.address_table.proofs.Runs.{book-after}
 use Rattle.address_fill.specs.Fill.{places_at}
 use Rattle.table_replay.specs.declared.TableReplayAnswer.{TableReplayAnswer}
 use Rattle.table_replay.specs.Script.{call_end, call_at, calls_from, calls_of, script_calls}
-use Rattle.table_replay.specs.Answer.{accepted_one, accepted_among, last_told, table_replay_answer, list_after, list_run, report_of_table_replay}
+use Rattle.table_replay.specs.Answer.{accepted_among, last_told, table_replay_answer, list_run, report_of_table_replay}
 use Rattle.table_replay.proofs.Ends.{call-longer, call_ends}
 use Rattle.table_replay.proofs.Made.{MadeAt, byte-call}
 use Rattle.table_replay.proofs.Calls.{calls-none, calls-on}
+use Rattle.std.specs.Prelude.{Ok, Result}
+use Rattle.refusal.specs.declared.Refusal.{Refusal}
 
 -- ---- counting
 
--- at most 1 is counted of a call
-pub accepted-one : (a : NumberAnswer) → accepted_one a ≤ 1
-unfolding accepted_one
-accepted-one (Found v) = omega arith
-accepted-one (Refused x) = omega arith
-
 -- what is answered after so many calls
-abbrev pub answered : ℕ → ℕ → NumberAnswer → TableReplayAnswer
+abbrev pub answered : ℕ → ℕ → Result ℕ Refusal → TableReplayAnswer
 answered calls accepted last = record { calls = calls; accepted = accepted; last = last }
 
 -- the answer t after the calls of a list
@@ -67,7 +63,7 @@ module _ (p : Places) (given : ℕ) (s : List ℕ) where
     pub list : list_run (calls_from p given (length s) s at) (book_of m) l ≡ list_run (calls_of p given s) (book_of n) k
 
   -- from the first call on it is the whole script
-  pub left-first : (n k : List ℕ) → Left 0 (answered 0 0 (Found 0)) n k n k
+  pub left-first : (n k : List ℕ) → Left 0 (answered 0 0 (Ok 0)) n k n k
   unfolding calls_of table_replay_answer
   left-first n k =
       let bs : List Answer = answers (calls_of p given s) (book_of n) in
@@ -83,7 +79,7 @@ module _ (p : Places) (given : ℕ) (s : List ℕ) where
       )
 
   -- one call is made, and counted; those from its end are left
-  pub left-next : (at e g calls accepted v : ℕ) (last a : NumberAnswer) (m o l q n k : List ℕ) → length m ≡ 4097 → e ≡ call_end s at → (e ≡ 0 → ⊥)
+  pub left-next : (at e g calls accepted v : ℕ) (last a : Result ℕ Refusal) (m o l q n k : List ℕ) → length m ≡ 4097 → e ≡ call_end s at → (e ≡ 0 → ⊥)
       → g ≡ given → MadeAt m o l q (call_at p g s at) a → v ≡ accepted_one a → Left at (answered calls accepted last) m l n k
       → Left e (answered (calls + 1) (accepted + v) a) o q n k
   unfolding answers run contents_run list_run answer_in
@@ -101,7 +97,7 @@ module _ (p : Places) (given : ℕ) (s : List ℕ) where
       }
 
 -- the counts stay within the numbers of the script that were read, and these within the script
-pub counted-bounds : (s : List ℕ) (at e calls accepted n : ℕ) (a : NumberAnswer) → e ≡ call_end s at → (e ≡ 0 → ⊥) → n ≡ accepted_one a
+pub counted-bounds : (s : List ℕ) (at e calls accepted n : ℕ) (a : Result ℕ Refusal) → e ≡ call_end s at → (e ≡ 0 → ⊥) → n ≡ accepted_one a
     → (accepted ≤ calls) × (calls ≤ at) → (accepted + n ≤ calls + 1) × (calls + 1 ≤ e) × (e ≤ length s)
 counted-bounds s at e calls accepted n a p nz c v =
     let o = accepted-one a in

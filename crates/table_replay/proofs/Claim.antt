@@ -1,12 +1,10 @@
 -- Request 6's claim for a script: what it answers and leaves from the empty table. Assumes nothing.
-use mathlib.Core.Path.{◌≡◌, refl, sym, ◌∙◌, ap}
+use mathlib.Core.Path.{◌≡◌, refl, ◌∙◌, ap}
 use mathlib.Core.List.{List, [], ◌∷◌, ◌++◌}
 use Prim.Native.Nat.{ℕ}
 use lib.ListN.{length}
-use Rattle.address_book.specs.declared.NumberAnswer.{NumberAnswer}
-use Rattle.address_book.specs.declared.NumberAnswer.TheVariants.{Found}
 use Rattle.address_book.specs.Book.{Book}
-use Rattle.address_book.specs.Call.{Call, Answer, number_of, answer_in, after}
+use Rattle.address_book.specs.Call.{Call, number_of, answer_in, after}
 use Rattle.address_book.specs.Run.{run, answers}
 use Rattle.address_table.specs.Table.{book_of, empty_table}
 use Rattle.address_table.specs.Run.{contents_run}
@@ -16,6 +14,8 @@ use Rattle.table_replay.specs.Script.{script_calls, encode, AllAsked}
 use Rattle.table_replay.specs.Answer.{last_told, table_replay_answer, list_run}
 use Rattle.table_replay.proofs.Calls.{byte-script}
 use Rattle.table_replay.proofs.Encode.{encode-decode}
+use Rattle.std.specs.Prelude.{Ok, Result}
+use Rattle.refusal.specs.declared.Refusal.{Refusal}
 
 -- ---- any script
 
@@ -48,7 +48,7 @@ module _ (file lent : List ℕ) (cs : List Call) (b : AllAsked (places_at file) 
 
 -- ---- each call
 
-last-told : (t : NumberAnswer) (cs : List Call) (c : Call) (b : Book) → last_told t (answers (cs ++ (c ∷ [])) b) ≡ number_of (run cs b) c
+last-told : (t : Result ℕ Refusal) (cs : List Call) (c : Call) (b : Book) → last_told t (answers (cs ++ (c ∷ [])) b) ≡ number_of (run cs b) c
 unfolding last_told answers run answer_in
 last-told t [] c b = refl
 last-told t (d ∷ cs) c b = last-told (number_of b d) cs c (after b d)
@@ -56,4 +56,4 @@ last-told t (d ∷ cs) c b = last-told (number_of b d) cs c (after b d)
 -- a list that ends with a call tells that call's answer on the book that the calls before it left
 pub last-answer : (cs : List Call) (c : Call) (b : Book) → (table_replay_answer (cs ++ (c ∷ [])) b).last ≡ number_of (run cs b) c
 unfolding table_replay_answer
-last-answer cs c b = last-told (Found 0) cs c b
+last-answer cs c b = last-told (Ok 0) cs c b

@@ -7,7 +7,7 @@ use lib.ListN.{length, get_or, drop, length-append}
 use lib.Seq.{take-append_seam, drop-append_seam}
 use Rattle.script.proofs.Encode.{from-get_d, from_first, from-drop, from-length}
 use Rattle.update.specs.Update.{Bytes}
-use Rattle.address_book.specs.Book.{Key, key}
+use Rattle.address_book.specs.Book.{Key}
 use Rattle.address_book.specs.Call.{Places, Call, add, remove, look, fill, count, list}
 use Rattle.table_replay.specs.Script.{fixed_of, name_length, call_end, low_byte, bytes_at, key_at, row_call, call_at, calls_from, calls_of, key_numbers, call_numbers, encode, Asked, AllAsked}
 use Rattle.table_replay.proofs.Ends.{call_none, call-whole, row-name, no_name}

@@ -9,24 +9,22 @@ use Rattle.refusal.specs.declared.IndexItem.{IndexItem}
 use Rattle.refusal.specs.declared.IndexItem.TheVariants.{NoBench}
 use Rattle.refusal.specs.declared.Refusal.{Refusal}
 use Rattle.refusal.specs.declared.Refusal.TheVariants as refusal
-use Rattle.refusal.specs.declared.Verdict.{Verdict}
-use Rattle.refusal.specs.declared.Verdict.TheVariants.{Accepted, Refused}
 use Rattle.refusal.specs.Refusal.{refused_head}
 use Rattle.refusal.specs.Order.{◌or_else◌, refuse_if, by_verdict}
-use Rattle.offset.specs.declared.StartsAnswer.{StartsAnswer}
-use Rattle.offset.specs.declared.StartsAnswer.TheVariants.{Known, Unknown}
 use Rattle.offset.specs.Offset.{starts_of, offset_by, offset_of}
 use Rattle.offset.specs.Report.{report_head}
 use Rattle.sheet.specs.Sheet.{sheet_head}
-use Rattle.address_book.specs.declared.NumberAnswer.TheVariants as answer
 use Rattle.address_book.specs.Book.{Key, Book, find}
-use Rattle.address_book.specs.Call.{Places, add, remove, look, fill, is_none, name_limit, row_limit, bench_check, key_check, call_check, check_of, value_in, number_in, number_of, report_of_number}
+use Rattle.address_book.specs.Call.{Places, add, remove, look, fill, is_none, name_limit, row_limit, bench_check, key_check, call_check, check_of, value_in, number_in, number_of}
 use Rattle.table_replay.specs.Answer.{answer_head}
+use Rattle.std.specs.Prelude.{Err, None, Ok, Option, Some}
+use Rattle.offset.specs.declared.Starts.{Starts}
+use Rattle.refusal.specs.Verdict.{Verdict}
 
 -- a fill's report has its refusal's place in the file
-by-fill : (file : List ℕ) (v : Verdict) → answer_head file (by_verdict v (answer.Found 0) answer.Refused) ≡ report_head file v
-by-fill file Accepted = refl
-by-fill file (Refused x) = refl
+by-fill : (file : List ℕ) (v : Verdict) → answer_head file (by_verdict v (Ok 0) Err) ≡ report_head file v
+by-fill file (Ok tt) = refl
+by-fill file (Err x) = refl
 
 pub fill-report : (file : List ℕ) (b : Book) (n : ℕ) (p : Places) (given : ℕ) → answer_head file (number_of b (fill n p given)) ≡ report_head file (check_of b (fill n p given))
 unfolding number_in value_in
@@ -34,24 +32,24 @@ fill-report file b n p given = by-fill file (check_of b (fill n p given))
 
 -- no other call's refusal has one
 module _ (file : List ℕ) where
-  no_place : (a : StartsAnswer) (i : IndexItem) → offset_by file a (refusal.Index i) ≡ 0
-  no_place Unknown i = refl
-  no_place (Known s) i = refl
+  no_place : (a : Option Starts) (i : IndexItem) → offset_by file a (refusal.Index i) ≡ 0
+  no_place None i = refl
+  no_place (Some s) i = refl
 
-  long-place : (a : StartsAnswer) → offset_by file a refusal.Long ≡ 0
-  long-place Unknown = refl
-  long-place (Known s) = refl
+  long-place : (a : Option Starts) → offset_by file a refusal.Long ≡ 0
+  long-place None = refl
+  long-place (Some s) = refl
 
-  full-place : (a : StartsAnswer) → offset_by file a refusal.Full ≡ 0
-  full-place Unknown = refl
-  full-place (Known s) = refl
+  full-place : (a : Option Starts) → offset_by file a refusal.Full ≡ 0
+  full-place None = refl
+  full-place (Some s) = refl
 
-  absent-place : (a : StartsAnswer) → offset_by file a refusal.Absent ≡ 0
-  absent-place Unknown = refl
-  absent-place (Known s) = refl
+  absent-place : (a : Option Starts) → offset_by file a refusal.Absent ≡ 0
+  absent-place None = refl
+  absent-place (Some s) = refl
 
   by_row : (s t u : Bool) (n m : ℕ) (z : Refusal) → offset_of file z ≡ 0
-      → answer_head file (by_verdict ((refuse_if s (refusal.Index (NoBench n)) or_else refuse_if t refusal.Long) or_else refuse_if u z) (answer.Found m) answer.Refused) ≡ sheet_head ((refuse_if s (refusal.Index (NoBench n)) or_else refuse_if t refusal.Long) or_else refuse_if u z)
+      → answer_head file (by_verdict ((refuse_if s (refusal.Index (NoBench n)) or_else refuse_if t refusal.Long) or_else refuse_if u z) (Ok m) Err) ≡ sheet_head ((refuse_if s (refusal.Index (NoBench n)) or_else refuse_if t refusal.Long) or_else refuse_if u z)
   by_row true t u n m z e = ap (refused_head (refusal.Index (NoBench n))) (no_place (starts_of file) (NoBench n))
   by_row false true u n m z e = ap (refused_head refusal.Long) (long-place (starts_of file))
   by_row false false true n m z e = ap (refused_head z) e

@@ -11,17 +11,16 @@ ghost use Rattle.address_table.specs.Table.{book_of, contents_after};
 ghost use Rattle.address_table.specs.Run.{contents_run};
 ghost use Rattle.address_fill.specs.Fill.{places_at};
 ghost use Rattle.table_replay.specs.Script.{fixed_of, name_length, call_end, bytes_at, key_at, row_call, call_at, script_calls};
-ghost use Rattle.table_replay.specs.Answer.{accepted_one, table_replay_answer, list_after, list_run, answer_head, found_value, report_of_table_replay};
+ghost use Rattle.table_replay.specs.Answer.{table_replay_answer, list_after, list_run, answer_head, found_value, report_of_table_replay};
 
-use address_book::NumberAnswer;
-use refusal::{Head, Verdict};
+use refusal::{Head, Refusal};
 
 // How many calls were run, how many of them were accepted, and the last one's own answer.
 #[derive(Clone, Copy)]
 pub struct TableReplayAnswer {
     pub calls: u64,
     pub accepted: u64,
-    pub last: NumberAnswer,
+    pub last: Result<u64, Refusal>,
 }
 
 // The last call's answer, as `address_book::NumberReport` has it, and the counts.
@@ -104,10 +103,8 @@ fn read_name(s: &[u64], from: usize, n: usize) -> [u8; 33]
     ensures { result ≡ sets (replicate 33 0) 0 (bytes_at s.now from n) }
 {
     let mut name = [0u8; 33];
-    let mut i = 0;
-    while i < n {
-        name[i] = (s[from + i] % 256) as u8;
-        i += 1;
+    for (i, w) in s[from..from + n].iter().enumerate() {
+        name[i] = (*w % 256) as u8;
     }
     name
 }
@@ -115,13 +112,11 @@ fn read_name(s: &[u64], from: usize, n: usize) -> [u8; 33]
 // ---- its calls
 
 // The answer of a call that finds nothing.
-fn number_of(v: Verdict) -> NumberAnswer
-    ensures { result ≡ by_verdict v (NumberAnswer.Found 0) NumberAnswer.Refused }
+fn number_of(v: Result<(), Refusal>) -> Result<u64, Refusal>
+    ensures { result ≡ by_verdict v (Ok 0) Err }
 {
-    match v {
-        Verdict::Accepted => NumberAnswer::Found(0),
-        Verdict::Refused(x) => NumberAnswer::Refused(x),
-    }
+    v?;
+    Ok(0)
 }
 
 // Makes a call on one row.
@@ -132,7 +127,7 @@ fn call_row(
     file_id: u64,
     name: &[u8],
     address: u64,
-) -> NumberAnswer
+) -> Result<u64, Refusal>
     ensures answer { result ≡ number_of (book_of table.old) (row_call kind (key bench file_id name.now) address) }
     ensures table { table.new ≡ contents_after table.old (row_call kind (key bench file_id name.now) address) }
 {
@@ -146,7 +141,7 @@ fn call_row(
 }
 
 // Makes the call on one row that is at a place.
-fn call_row_at(table: &mut [u64; 4097], s: &[u64], at: usize) -> NumberAnswer
+fn call_row_at(table: &mut [u64; 4097], s: &[u64], at: usize) -> Result<u64, Refusal>
     requires { (call_end s.now at ≡ 0 → ⊥) × (get_or s.now at 0 < 3) }
     ensures answer { result ≡ number_of (book_of table.old) (row_call (get_or s.now at 0) (key_at s.now at) (get_or s.now (at + 4 + name_length s.now at) 0)) }
     ensures table { table.new ≡ contents_after table.old (row_call (get_or s.now at 0) (key_at s.now at) (get_or s.now (at + 4 + name_length s.now at) 0)) }
@@ -176,7 +171,7 @@ fn call_at(
     at: usize,
     table: &mut [u64; 4097],
     list: &mut [u64],
-) -> NumberAnswer
+) -> Result<u64, Refusal>
     requires { call_end s.now at ≡ 0 → ⊥ }
     ensures answer { result ≡ number_of (book_of table.old) (call_at (places_at file.now) (length list.old) s.now at) }
     ensures table { table.new ≡ contents_after table.old (call_at (places_at file.now) (length list.old) s.now at) }
@@ -193,16 +188,6 @@ fn call_at(
 
 // ---- the list
 
-// 1 of an accepted call, 0 of a refused one.
-fn accepted_one(a: NumberAnswer) -> u64
-    ensures { result ≡ accepted_one a }
-{
-    match a {
-        NumberAnswer::Found(_v) => 1,
-        NumberAnswer::Refused(_x) => 0,
-    }
-}
-
 // Runs the calls that `script` encodes on the table, each on the table that the last one left; a fill is of the module in `file` and
 // writes `list`. A call that is refused changes nothing and does not end the list.
 pub fn replay_table(
@@ -217,7 +202,7 @@ pub fn replay_table(
     ensures table { table.new ≡ contents_run (script_calls file.now list.old script.now) table.old }
     ensures list { list.new ≡ list_run (script_calls file.now list.old script.now) (book_of table.old) list.old }
 {
-    let mut last = NumberAnswer::Found(0);
+    let mut last = Ok(0);
     let mut calls: u64 = 0;
     let mut accepted: u64 = 0;
     let mut at: usize = 0;
@@ -232,7 +217,7 @@ pub fn replay_table(
         }
         last = call_at(file, script, at, table, list);
         calls += 1;
-        accepted += accepted_one(last);
+        accepted += script::accepted_one(&last);
         at = end;
     }
     TableReplayAnswer {
@@ -244,21 +229,21 @@ pub fn replay_table(
 
 // ---- the report
 
-fn answer_head(file: &[u8], a: NumberAnswer) -> Head
+fn answer_head(file: &[u8], a: Result<u64, Refusal>) -> Head
     ensures { result ≡ answer_head file.now a }
 {
     match a {
-        NumberAnswer::Found(_v) => refusal::accepted_head(),
-        NumberAnswer::Refused(x) => offset::refusal_head(file, x),
+        Ok(_v) => refusal::accepted_head(),
+        Err(x) => offset::refusal_head(file, x),
     }
 }
 
-fn found_value(a: NumberAnswer) -> u64
+fn found_value(a: Result<u64, Refusal>) -> u64
     ensures { result ≡ found_value a }
 {
     match a {
-        NumberAnswer::Found(v) => v,
-        NumberAnswer::Refused(_x) => 0,
+        Ok(v) => v,
+        Err(_x) => 0,
     }
 }
 

@@ -1,12 +1,11 @@
--- The laws of text in a buffer, `sets bs at t`: one byte more before it or after it, and the seam of two texts. Assumes nothing.
+-- The laws of text in a buffer, `sets bs at t`: one byte more before it, and the seam of two texts. Assumes nothing.
 use mathlib.Core.Path.{◌≡◌, refl, sym, ◌∙◌, ap}
 use mathlib.Core.List.{List, [], ◌∷◌, ◌++◌}
 use Prim.Native.Nat.{ℕ, suc, ◌+◌, ◌-◌, ◌/◌, ◌%◌, ◌^◌, ◌≤◌, ◌<◌}
 use native.Mathlib.Nat.{add-zero, add-suc, suc-add}
-use native.Mathlib.Numerals.{add-one}
 use native.Mathlib.Omega.{arith}
-use lib.ListN.{length, get_or, drop, set, length-append}
-use lib.Seq.{sets, set_comm, drop-cons}
+use lib.ListN.{length, set, length-append}
+use lib.Seq.{sets, set_comm}
 use Rattle.text.specs.Text.{digit_of, digits}
 
 set_below : (bs : List ℕ) (i j a : ℕ) (t : List ℕ) → i < j → set (sets bs j t) i a ≡ sets (set bs i a) j t
@@ -21,10 +20,6 @@ digit-before bs at b n i v h k =
     let p : at + i ≡ suc (at + (i - 1)) = omega arith in
     let q : n - (i - 1) ≡ suc (n - i) = omega arith in
     rw (p, q) (set_below bs (at + (i - 1)) (suc (at + (i - 1))) (digit_of (v / b ^ (n - i) % b)) (digits b (n - i) v) (omega arith))
-
--- what is left of a text after one byte more
-pub store-next : (bs : List ℕ) (at i : ℕ) (t : List ℕ) → i < length t → sets bs (at + i) (drop i t) ≡ sets (set bs (at + i) (get_or t i 0)) (at + (i + 1)) (drop (i + 1) t)
-store-next bs at i t h = let e : at + (i + 1) ≡ suc (at + i) = omega arith in rw (e, add-one i, drop-cons t i 0)
 
 -- a text after a text
 pub sets-append : (bs : List ℕ) (i : ℕ) (t u : List ℕ) → sets (sets bs i t) (i + length t) u ≡ sets bs i (t ++ u)

@@ -32,12 +32,10 @@ fn put_digits(out: &mut [u8; 2048], at: usize, base: u64, count: usize, v: u64)
     requires count_bound { at + count ≤ 2048 }
     ensures { out.new ≡ sets out.old at (digits base count v) }
 {
-    let mut i = count;
     let mut rest = v;
-    while 0 < i {
-        i -= 1;
+    for i in (0..count).rev() {
         out[at + i] = digit(rest % base);
-        rest = rest / base;
+        rest /= base;
     }
 }
 
@@ -75,10 +73,7 @@ pub fn put_bytes(out: &mut [u8; 2048], at: usize, s: &[u8]) -> usize
     ensures next { result ≡ at + length s.now }
     ensures text { out.new ≡ sets out.old at s.now }
 {
-    let mut i = 0;
-    while i < s.len() {
-        out[at + i] = s[i];
-        i += 1;
-    }
-    at + i
+    let end = at + s.len();
+    out[at..end].copy_from_slice(s);
+    end
 }

@@ -1,5 +1,5 @@
 -- The visibility in a symbol's type.
-use Rattle.std.specs.Prelude.{ℕ, ◌/◌, ◌%◌, Bool, false, cond, ◌&&◌, ◌||◌, List, eqb, ltb, leb}
+use Rattle.std.specs.Prelude.{ℕ, ◌/◌, ◌%◌, Bool, false, cond, ◌&&◌, ◌||◌, List, eqb, ltb, leb, None, Option, Some}
 use Rattle.word.specs.declared.Field.{Field}
 use Rattle.word.specs.declared.Width.TheVariants.{Two}
 use Rattle.word.specs.Number.{field, field_in}
@@ -7,8 +7,6 @@ use Rattle.format.specs.declared.Format.{Format}
 use Rattle.format.specs.declared.Format.TheVariants.{Xcoff32, Xcoff64}
 use Rattle.format.specs.Layout.{header_layout}
 use Rattle.header.specs.declared.Summary.{Summary}
-use Rattle.visibility.specs.declared.Visibility.{Visibility}
-use Rattle.visibility.specs.declared.Visibility.TheVariants.{NotClaimed, Claimed}
 
 -- ---- where it is claimed
 
@@ -41,5 +39,5 @@ visibility_bits ntype = ntype / 0x1000 % 8
 unfoldable pub is_unknown : Bool → ℕ → ℕ → Bool
 is_unknown version2 sclass ntype = is_claimed version2 sclass && ltb 4 (visibility_bits ntype)
 
-unfoldable pub visibility_of : Bool → ℕ → ℕ → Visibility
-visibility_of version2 sclass ntype = cond (is_claimed version2 sclass) (Claimed (visibility_bits ntype)) NotClaimed
+unfoldable pub visibility_of : Bool → ℕ → ℕ → Option ℕ
+visibility_of version2 sclass ntype = cond (is_claimed version2 sclass) (Some (visibility_bits ntype)) None

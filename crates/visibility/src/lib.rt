@@ -7,13 +7,7 @@ ghost use Rattle.visibility.specs.Visibility.{has_version2, is_csect_class, is_c
 
 use format::Format;
 use header::Summary;
-
-// What is said of a symbol's visibility: nothing, or 0 none, 1 internal, 2 hidden, 3 protected, 4 exported.
-#[derive(Clone, Copy)]
-pub enum Visibility {
-    NotClaimed,
-    Claimed(u64),
-}
+use word::Width;
 
 // Whether the types of an opened file may have a visibility: XCOFF32 with an auxiliary header that holds version 2.
 pub fn has_version_2(file: &[u8], y: Summary) -> bool
@@ -28,7 +22,7 @@ pub fn has_version_2(file: &[u8], y: Summary) -> bool
                 return false;
             }
             let l = format::header_layout(f);
-            word::read_field(file, l.length, word::two(2)) == 2
+            word::read_field(file, l.length, Width::Two.at(2)) == 2
         }
     }
 }
@@ -64,11 +58,12 @@ pub fn is_unknown(version2: bool, sclass: u64, ntype: u64) -> bool
     false
 }
 
-pub fn visibility_of(version2: bool, sclass: u64, ntype: u64) -> Visibility
+// What is said of a symbol's visibility: nothing, or 0 none, 1 internal, 2 hidden, 3 protected, 4 exported.
+pub fn visibility_of(version2: bool, sclass: u64, ntype: u64) -> Option<u64>
     ensures { result ≡ visibility_of version2 sclass ntype }
 {
     if is_claimed(version2, sclass) {
-        return Visibility::Claimed(ntype / 0x1000 % 8);
+        return Some(ntype / 0x1000 % 8);
     }
-    Visibility::NotClaimed
+    None
 }

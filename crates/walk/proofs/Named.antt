@@ -6,8 +6,6 @@ use lib.Dec.{leb}
 use Rattle.word.proofs.Test.{either}
 use Rattle.format.specs.declared.SymbolIndex.{SymbolIndex}
 use Rattle.refusal.specs.declared.Refusal.{Refusal}
-use Rattle.refusal.specs.declared.Verdict.{Verdict}
-use Rattle.refusal.specs.declared.Verdict.TheVariants as verdict
 use Rattle.refusal.specs.Order.{by_verdict}
 use Rattle.refusal.proofs.Causes.{Causes}
 use Rattle.offset.specs.Named.{Named}
@@ -16,14 +14,15 @@ use Rattle.header.proofs.Named.{opened-named}
 use Rattle.symbol.specs.declared.Tables.{Tables}
 use Rattle.symbol.specs.Entry.{OpenTables, tables_at, entry_of}
 use Rattle.symbol.proofs.Named.{symbol-named}
-use Rattle.walk.specs.declared.WalkAnswer.{WalkAnswer}
-use Rattle.walk.specs.declared.WalkAnswer.TheVariants.{Ended, Refused}
 use Rattle.walk.specs.Walk.{visited_in, behind, cause_at, walk_in, walk_of}
+use Rattle.std.specs.Prelude.{Err, Ok, Result}
+use Rattle.walk.specs.declared.WalkEnd.{WalkEnd}
+use Rattle.refusal.specs.Verdict.{Verdict}
 
 -- what holds of the refusal of a walk, or of the cause that it ends with
-abbrev pub WalkCauses : (Refusal → Type 0) → WalkAnswer → Type 0
-WalkCauses P (Ended w) = Causes P w.cause
-WalkCauses P (Refused x) = P x
+abbrev pub WalkCauses : (Refusal → Type 0) → Result WalkEnd Refusal → Type 0
+WalkCauses P (Ok w) = Causes P w.cause
+WalkCauses P (Err x) = P x
 
 module _ (file : List ℕ) where
   cause-named : (t : Tables) → OpenTables file t → (i : ℕ) → Causes (Named file) (cause_at file t i)
@@ -32,7 +31,7 @@ module _ (file : List ℕ) where
       either (Causes (Named file)) (leb t.count i) (λ _. tt) (λ _. symbol-named file t o j (entry_of file t j))
 
   -- the cause that the walk of an opened file ends with
-  pub walk-in-named : (open_of file).verdict ≡ verdict.Accepted → WalkCauses (Named file) (Ended (walk_in file (tables_at file)))
+  pub walk-in-named : (open_of file).verdict ≡ Ok tt → WalkCauses (Named file) (Ok (walk_in file (tables_at file)))
   unfolding walk_in
   walk-in-named e = let t = tables_at file in cause-named t (record { accepted = e; tables = refl }) (behind file t 0 (visited_in file t))
 
@@ -41,6 +40,6 @@ module _ (file : List ℕ) where
   unfolding walk_of
   walk-named = by (open_of file).verdict refl (opened-named file)
     where
-      by : (v : Verdict) → (open_of file).verdict ≡ v → Causes (Named file) v → WalkCauses (Named file) (by_verdict v (Ended (walk_in file (tables_at file))) Refused)
-      by verdict.Accepted e c = walk-in-named e
-      by (verdict.Refused x) e c = c
+      by : (v : Verdict) → (open_of file).verdict ≡ v → Causes (Named file) v → WalkCauses (Named file) (by_verdict v (Ok (walk_in file (tables_at file))) Err)
+      by (Ok tt) e c = walk-in-named e
+      by (Err x) e c = c

@@ -6,7 +6,7 @@ ghost use Rattle.symbol.specs.Entry.{OpenTables};
 ghost use Rattle.walk.specs.Walk.{walk_in, walk_of, report_of_walk, walk_report};
 
 use format::SymbolIndex;
-use refusal::{Head, Refusal, Verdict};
+use refusal::{Head, Refusal};
 use symbol::Tables;
 
 // How many entries the walk visited, the index where it ended, and why: accepted at the table's end.
@@ -14,13 +14,7 @@ use symbol::Tables;
 pub struct WalkEnd {
     pub visited: u64,
     pub end: SymbolIndex,
-    pub cause: Verdict,
-}
-
-#[derive(Clone, Copy)]
-pub enum WalkAnswer {
-    Ended(WalkEnd),
-    Refused(Refusal),
+    pub cause: Result<(), Refusal>,
 }
 
 // `cause` is why the walk stopped at `end`: number 0 at the table's end.
@@ -44,7 +38,7 @@ pub fn walk_tables(file: &[u8], t: Tables) -> WalkEnd
     while i < count {
         let e = symbol::entry_in(file, t, SymbolIndex(i));
         let cause = symbol::check_entry(file, t, SymbolIndex(i), e);
-        if refusal::refuses(cause) {
+        if cause.is_err() {
             return WalkEnd {
                 visited,
                 end: SymbolIndex(i),
@@ -57,38 +51,33 @@ pub fn walk_tables(file: &[u8], t: Tables) -> WalkEnd
     WalkEnd {
         visited,
         end: SymbolIndex(i),
-        cause: Verdict::Accepted,
+        cause: Ok(()),
     }
 }
 
 // The walk over the symbol table; one that stops is an answer and names its cause.
-pub fn walk(file: &[u8]) -> WalkAnswer
+pub fn walk(file: &[u8]) -> Result<WalkEnd, Refusal>
     ensures cause { result ≡ walk_of file.now }
     ensures report { report_of_walk file.now result ≡ walk_report file.now }
 {
     let o = header::open(file);
-    let v = o.verdict;
-    match v {
-        Verdict::Refused(x) => WalkAnswer::Refused(x),
-        Verdict::Accepted => {
-            let y = o.summary;
-            let t = symbol::tables_of(file, y);
-            WalkAnswer::Ended(walk_tables(file, t))
-        }
-    }
+    o.verdict?;
+    let y = o.summary;
+    let t = symbol::tables_of(file, y);
+    Ok(walk_tables(file, t))
 }
 
-pub fn report_walk(file: &[u8], a: WalkAnswer) -> WalkReport
+pub fn report_walk(file: &[u8], a: Result<WalkEnd, Refusal>) -> WalkReport
     ensures { result ≡ report_of_walk file.now a }
 {
     match a {
-        WalkAnswer::Refused(x) => WalkReport {
+        Err(x) => WalkReport {
             head: offset::refusal_head(file, x),
             visited: 0,
             end: 0,
             cause: refusal::accepted_head(),
         },
-        WalkAnswer::Ended(w) => {
+        Ok(w) => {
             let end = w.end;
             let cause = w.cause;
             WalkReport {

@@ -1,6 +1,6 @@
 -- The laws of zeros: the first, the last, how many. Assumes nothing.
 use mathlib.Core.Path.{◌≡◌, refl}
-use mathlib.Core.Bool.{Bool, true, false, cond, ◌||◌}
+use mathlib.Core.Bool.{Bool, true, false, cond, not, ◌||◌}
 use mathlib.Core.List.{List, [], ◌∷◌}
 use Prim.Native.Nat.{ℕ, zero, suc, ◌+◌, ◌-◌, ◌≤◌, ◌<◌, suc-le-suc, zero-le}
 use native.Mathlib.Decide.{ℕ_discrete, dec_le}
@@ -11,20 +11,19 @@ use borrow.Author.Tests.{eq-eqb, ne_eqb, lt-ltb, le-ltb, ltb-false}
 use lib.Dec.{eqb, ltb}
 use lib.ListN.{length, get_or, take, drop, drop_of_length-le, length-drop}
 use lib.Seq.{drop-cons, drop-drop, take_all}
+use Rattle.std.proofs.Common.{Some, None}
+use Rattle.std.specs.List.{position, position_or_len}
+use Rattle.std.specs.Option.{unwrap_or}
 use Rattle.word.specs.Zero.{first_zero, zeros_in, end_before, zero_end}
 
--- a zero at i, something else at i, and nothing left
-pub zero-here : (s : List ℕ) (i : ℕ) → i < length s → get_or s i 0 ≡ 0 → first_zero (drop i s) ≡ 0
+-- a zero at i, and something else at i
+zero-here : (s : List ℕ) (i : ℕ) → i < length s → get_or s i 0 ≡ 0 → first_zero (drop i s) ≡ 0
 unfolding first_zero
 zero-here s i h e = rw (drop-cons s i 0, e)
 
-pub zero-later : (s : List ℕ) (i : ℕ) → i < length s → (get_or s i 0 ≡ 0 → ⊥) → first_zero (drop i s) ≡ suc (first_zero (drop (i + 1) s))
+zero-later : (s : List ℕ) (i : ℕ) → i < length s → (get_or s i 0 ≡ 0 → ⊥) → first_zero (drop i s) ≡ suc (first_zero (drop (i + 1) s))
 unfolding first_zero
 zero-later s i h n = rw (add-one, drop-cons s i 0, ne_eqb (get_or s i 0) 0 n)
-
-pub zero-none : (s : List ℕ) (i : ℕ) → length s ≤ i → first_zero (drop i s) ≡ 0
-unfolding first_zero
-zero-none s i h = rw (drop_of_length-le s h)
 
 -- one element more is counted
 pub zeros-more : (s : List ℕ) (i : ℕ) → i < length s → zeros_in (drop i s) ≡ zeros_in (get_or s i 0 ∷ []) + zeros_in (drop (i + 1) s)
@@ -115,6 +114,23 @@ zero-within (x ∷ xs) = by-test (eqb x 0) (zero-within xs)
     by-test true h = zero-le
     by-test false h = suc-le-suc h
 
+-- it is the place that a search gives, or the length
+first-place : (s : List ℕ) → position_or_len (λ x. eqb x 0) s ≡ first_zero s
+unfolding first_zero
+first-place [] = refl
+first-place (x ∷ xs) = by-test (eqb x 0) (first-place xs)
+  where
+    by-test : (b : Bool) → position_or_len (λ x. eqb x 0) xs ≡ first_zero xs → cond (not b) (1 + position_or_len (λ x. eqb x 0) xs) 0 ≡ cond b 0 (suc (first_zero xs))
+    by-test true h = refl
+    by-test false h = omega (arith, h)
+
+pub first-position : (s : List ℕ) → unwrap_or (position (λ x. eqb x 0) s) (length s) ≡ first_zero s
+first-position s = rw (first-place s) (by-test (ltb (first_zero s) (length s)) refl (zero-within s))
+  where
+    by-test : (b : Bool) → ltb (first_zero s) (length s) ≡ b → first_zero s ≤ length s → unwrap_or (cond b (Some (first_zero s)) None) (length s) ≡ first_zero s
+    by-test true e h = refl
+    by-test false e h = omega (arith, ltb-false (first_zero s) (length s) e)
+
 -- behind the first zero there is one zero less
 pub zero-counted : (s : List ℕ) → 0 < zeros_in s → (first_zero s < length s) × (zeros_in s ≡ suc (zeros_in (drop (suc (first_zero s)) s)))
 unfolding first_zero zeros_in
@@ -125,14 +141,6 @@ zero-counted (x ∷ xs) h = by-test (eqb x 0) (zero-counted xs) h
         → (cond b 0 (suc (first_zero xs)) < suc (length xs)) × (cond b (suc (zeros_in xs)) (zeros_in xs) ≡ suc (zeros_in (drop (cond b 0 (suc (first_zero xs))) xs)))
     by-test true rest k = (omega arith, refl)
     by-test false rest k = let r = rest k in (omega arith, r.1)
-
--- one place less to look at, for a loop from the end
-pub zeros-less : (s : List ℕ) (i : ℕ) → 0 < i → (get_or s (i - 1) 0 ≡ 0 → ⊥) → ((k : ℕ) → i ≤ k → k < length s → get_or s k 0 ≡ 0 → ⊥) → (k : ℕ) → i - 1 ≤ k → k < length s → get_or s k 0 ≡ 0 → ⊥
-zeros-less s i p n h k a b e = by_place (ℕ_discrete k (i - 1))
-  where
-    by_place : Dec (k ≡ i - 1) → ⊥
-    by_place (yes q) = n (rw q at e)
-    by_place (no q) = h k (omega arith) b e
 
 -- a zero d places after o is found from o
 zero-by : (s : List ℕ) (d o : ℕ) → o + d < length s → get_or s (o + d) 0 ≡ 0 → first_zero (drop o s) ≤ d

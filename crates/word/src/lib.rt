@@ -22,40 +22,15 @@ pub struct Field {
     pub width: Width,
 }
 
-// The place of a number of one, two, four or eight bytes.
-pub fn one(offset: usize) -> Field
-    ensures { result ≡ field offset Width.One }
-{
-    Field {
-        offset,
-        width: Width::One,
-    }
-}
-
-pub fn two(offset: usize) -> Field
-    ensures { result ≡ field offset Width.Two }
-{
-    Field {
-        offset,
-        width: Width::Two,
-    }
-}
-
-pub fn four(offset: usize) -> Field
-    ensures { result ≡ field offset Width.Four }
-{
-    Field {
-        offset,
-        width: Width::Four,
-    }
-}
-
-pub fn eight(offset: usize) -> Field
-    ensures { result ≡ field offset Width.Eight }
-{
-    Field {
-        offset,
-        width: Width::Eight,
+impl Width {
+    // The place of a number of this width.
+    pub fn at(self, offset: usize) -> Field
+        ensures { result ≡ field offset self }
+    {
+        Field {
+            offset,
+            width: self,
+        }
     }
 }
 
@@ -177,6 +152,8 @@ fn skip_blocks(s: &[u8], n: usize) -> usize
     ensures skipped { first_zero s.now ≡ result + first_zero (drop result s.now) }
 {
     let mut at = 0;
+
+    // By blocks and not by bytes: the place where a block stops the loop is the answer.
     while n <= s.len() - at {
         let end = at + n;
         if has_zero(&s[at..end]) {
@@ -192,10 +169,8 @@ fn has_zero(block: &[u8]) -> bool
     ensures { result ≡ ltb 0 (zeros_in block.now) }
 {
     let mut found = false;
-    let mut i = 0;
-    while i < block.len() {
-        found = is_zero_or(block[i], found);
-        i += 1;
+    for b in block {
+        found = is_zero_or(*b, found);
     }
     found
 }
@@ -209,14 +184,7 @@ fn is_zero_or(b: u8, found: bool) -> bool
 fn scan_first(s: &[u8]) -> usize
     ensures { result ≡ first_zero s.now }
 {
-    let mut i = 0;
-    while i < s.len() {
-        if s[i] == 0 {
-            return i;
-        }
-        i += 1;
-    }
-    i
+    s.iter().position(|b| *b == 0).unwrap_or(s.len())
 }
 
 pub fn count_zeros(s: &[u8]) -> usize
@@ -224,6 +192,8 @@ pub fn count_zeros(s: &[u8]) -> usize
 {
     let mut n = 0;
     let mut at = 0;
+
+    // By blocks of a length that is written here, so that each is counted in a few instructions.
     while 64 <= s.len() - at {
         let end = at + 64;
         n = n + zeros_in(&s[at..end]) as usize;
@@ -238,10 +208,8 @@ fn zeros_in(block: &[u8]) -> u8
     ensures { result ≡ zeros_in block.now }
 {
     let mut n: u8 = 0;
-    let mut i = 0;
-    while i < block.len() {
-        n = n + zero_bit(block[i]);
-        i += 1;
+    for b in block {
+        n += zero_bit(*b);
     }
     n
 }
@@ -257,6 +225,8 @@ pub fn zero_end(s: &[u8]) -> usize
     ensures { result ≡ zero_end s.now }
 {
     let mut end = s.len();
+
+    // By blocks, the last one first.
     while 64 <= end {
         let at = end - 64;
         if has_zero(&s[at..end]) {
@@ -270,14 +240,10 @@ pub fn zero_end(s: &[u8]) -> usize
 fn scan_last(s: &[u8]) -> usize
     ensures { result ≡ zero_end s.now }
 {
-    let mut i = s.len();
-    while 0 < i {
-        if s[i - 1] == 0 {
-            return i;
-        }
-        i -= 1;
+    match s.iter().rposition(|b| *b == 0) {
+        Some(i) => i + 1,
+        None => 0,
     }
-    i
 }
 
 // Whether `size` bytes from `from` end past `end`.

@@ -12,8 +12,6 @@ use Rattle.format.specs.declared.Format.{Format}
 use Rattle.format.specs.declared.FileRange.{FileRange}
 use Rattle.format.specs.Layout.{header_layout, aux_layout, loader_layout, loader_symbol_length, relocation_layout}
 use Rattle.format.specs.Range.{range}
-use Rattle.refusal.specs.declared.Verdict.{Verdict}
-use Rattle.refusal.specs.declared.Verdict.TheVariants.{Accepted, Refused}
 use Rattle.refusal.specs.Order.{refuse_if, by_verdict}
 use Rattle.refusal.proofs.Order.{accepted-first, accepted-test}
 use Rattle.header.specs.declared.Summary.{Summary}
@@ -24,24 +22,23 @@ use Rattle.file_header.specs.Header.{section_start}
 use Rattle.format.specs.Limit.{file_limit}
 use Rattle.parts.specs.Sections.{parts_of}
 use Rattle.module.specs.declared.Module.{Module}
-use Rattle.module.specs.declared.ModuleAnswer.{ModuleAnswer}
-use Rattle.module.specs.declared.ModuleAnswer.TheVariants as module-answer
 use Rattle.module.specs.Module.{aux_of, module_check, module_with, module_in, module_at}
 use Rattle.module.proofs.Accepted.{module-inside}
 use Rattle.loader_header.specs.declared.LoaderHeader.{LoaderHeader}
 use Rattle.loader_header.specs.declared.LoaderTables.{LoaderTables}
 use Rattle.loader_header.specs.Header.{loader_header_at, tables_of, table_past, place_of, header_check, PlacesGood}
 use Rattle.loader_header.proofs.Places.{table-in, place-full}
-use Rattle.loader.specs.declared.LoaderAnswer.TheVariants as loader-answer
 use Rattle.loader.specs.Loader.{tables_in, loader_check, loader_in}
 use Rattle.loader.proofs.Accepted.{long-enough, loader-known}
 use Rattle.loadable.specs.declared.Loadable.{Loadable}
-use Rattle.loadable.specs.declared.LoadableAnswer.TheVariants as answer
 use Rattle.loader_entries.specs.Entries.{entries_check}
 use Rattle.loadable.specs.Loadable.{loadable_with, loadable_in, loadable_at}
 use Rattle.loadable.proofs.Accepted.{loader-room}
 use Rattle.shared_range.specs.Shared.{Holds}
 use Rattle.written.specs.Shared.{part_range}
+use Rattle.std.specs.Prelude.{Err, Ok, Result}
+use Rattle.refusal.specs.declared.Refusal.{Refusal}
+use Rattle.refusal.specs.Verdict.{Verdict}
 
 -- ---- an opened file
 
@@ -59,57 +56,57 @@ opthdr-small file y i = opthdr-start y.format y.opthdr y.count (length file) i.h
 -- ---- the sections
 
 pub record ModuleFound (file : List ℕ) (m : Module) : Type 0 where
-  pub opened : (open_of file).verdict ≡ Accepted
-  pub check : module_check file (open_of file).summary ≡ Accepted
+  pub opened : (open_of file).verdict ≡ Ok tt
+  pub check : module_check file (open_of file).summary ≡ Ok tt
   pub is : module_with (open_of file).summary.format (parts_of (open_of file).summary) (aux_of file (open_of file).summary) ≡ m
 
-pub module-found : (file : List ℕ) (m : Module) → module_at file ≡ module-answer.Found m → ModuleFound file m
+pub module-found : (file : List ℕ) (m : Module) → module_at file ≡ Ok m → ModuleFound file m
 unfolding module_at module_in
 module-found file m e = by-verdicts (open_of file).verdict (module_check file (open_of file).summary) refl refl e
   where
     by-verdicts : (v w : Verdict) → (open_of file).verdict ≡ v → module_check file (open_of file).summary ≡ w
-        → by_verdict v (by_verdict w (module-answer.Found (module_with (open_of file).summary.format (parts_of (open_of file).summary) (aux_of file (open_of file).summary))) module-answer.Refused) module-answer.Refused ≡ module-answer.Found m
+        → by_verdict v (by_verdict w (Ok (module_with (open_of file).summary.format (parts_of (open_of file).summary) (aux_of file (open_of file).summary))) Err) Err ≡ Ok m
         → ModuleFound file m
-    by-verdicts Accepted Accepted a b q = record { opened = a; check = b; is = cc }
-    by-verdicts Accepted (Refused x) a b q = absurd (let z : ◌≡◌ {A = ℕ} 0 1 = cc in omega arith)
-    by-verdicts (Refused x) w a b q = absurd (let z : ◌≡◌ {A = ℕ} 0 1 = cc in omega arith)
+    by-verdicts (Ok _) (Ok _) a b q = record { opened = a; check = b; is = cc }
+    by-verdicts (Ok tt) (Err x) a b q = absurd (let z : ◌≡◌ {A = ℕ} 0 1 = cc in omega arith)
+    by-verdicts (Err x) w a b q = absurd (let z : ◌≡◌ {A = ℕ} 0 1 = cc in omega arith)
 
 -- a file that opens to y and passes the module's checks is a module
-pub module-at : (file : List ℕ) (y : Summary) → open_of file ≡ record { verdict = Accepted; summary = y } → module_check file y ≡ Accepted
-    → module_at file ≡ module-answer.Found (module_with y.format (parts_of y) (aux_of file y))
+pub module-at : (file : List ℕ) (y : Summary) → open_of file ≡ record { verdict = Ok tt; summary = y } → module_check file y ≡ Ok tt
+    → module_at file ≡ Ok (module_with y.format (parts_of y) (aux_of file y))
 unfolding module_at module_in
 module-at file y q e = rw (q, e) refl
 
 -- ---- the loader section and the entries
 
 pub record LoadableFound (file : List ℕ) (l : Loadable) : Type 0 where
-  pub sections : module_at file ≡ module-answer.Found l.layout
-  pub check : loader_check file l.layout ≡ Accepted
+  pub sections : module_at file ≡ Ok l.layout
+  pub check : loader_check file l.layout ≡ Ok tt
   pub tables : tables_in file l.layout ≡ l.tables
-  pub entries : entries_check file l.layout.format l.layout.parts l.tables ≡ Accepted
+  pub entries : entries_check file l.layout.format l.layout.parts l.tables ≡ Ok tt
 
-pub loadable-found : (file : List ℕ) (l : Loadable) → loadable_at file ≡ answer.Found l → LoadableFound file l
+pub loadable-found : (file : List ℕ) (l : Loadable) → loadable_at file ≡ Ok l → LoadableFound file l
 unfolding loadable_at
 loadable-found file l e = by-module (module_at file) refl e
   where
-    by_entries : (m : Module) (t : LoaderTables) (v : Verdict) → module_at file ≡ module-answer.Found m → loader_check file m ≡ Accepted → tables_in file m ≡ t
-        → entries_check file m.format m.parts t ≡ v → by_verdict v (answer.Found (record { layout = m; tables = t })) answer.Refused ≡ answer.Found l → LoadableFound file l
-    by_entries m t Accepted a b c d q =
+    by_entries : (m : Module) (t : LoaderTables) (v : Verdict) → module_at file ≡ Ok m → loader_check file m ≡ Ok tt → tables_in file m ≡ t
+        → entries_check file m.format m.parts t ≡ v → by_verdict v (Ok (record { layout = m; tables = t })) Err ≡ Ok l → LoadableFound file l
+    by_entries m t (Ok tt) a b c d q =
         let z : ◌≡◌ {A = Loadable} (record { layout = m; tables = t }) l = cc in
         subst (λ (k : Loadable). LoadableFound file k) z (record { sections = a; check = b; tables = c; entries = d })
-    by_entries m t (Refused x) a b c d q = absurd (let z : ◌≡◌ {A = ℕ} 0 1 = cc in omega arith)
+    by_entries m t (Err x) a b c d q = absurd (let z : ◌≡◌ {A = ℕ} 0 1 = cc in omega arith)
 
-    by-loader : (m : Module) (v : Verdict) → module_at file ≡ module-answer.Found m → loader_check file m ≡ v
-        → loadable_with file m (by_verdict v (loader-answer.Found (tables_in file m)) loader-answer.Refused) ≡ answer.Found l → LoadableFound file l
-    by-loader m Accepted a b q = by_entries m (tables_in file m) (entries_check file m.format m.parts (tables_in file m)) a b refl refl (unfold loadable_with in q)
-    by-loader m (Refused x) a b q = absurd (let z : answer.Refused x ≡ answer.Found l = unfold loadable_with in q in let y : ◌≡◌ {A = ℕ} 0 1 = cc in omega arith)
+    by-loader : (m : Module) (v : Verdict) → module_at file ≡ Ok m → loader_check file m ≡ v
+        → loadable_with file m (by_verdict v (Ok (tables_in file m)) Err) ≡ Ok l → LoadableFound file l
+    by-loader m (Ok tt) a b q = by_entries m (tables_in file m) (entries_check file m.format m.parts (tables_in file m)) a b refl refl (unfold loadable_with in q)
+    by-loader m (Err x) a b q = absurd (let z : Err x ≡ Ok l = unfold loadable_with in q in let y : ◌≡◌ {A = ℕ} 0 1 = cc in omega arith)
 
-    by-module : (a : ModuleAnswer) → module_at file ≡ a → loadable_in file a ≡ answer.Found l → LoadableFound file l
-    by-module (module-answer.Refused x) a q = absurd (let z : answer.Refused x ≡ answer.Found l = unfold loadable_in in q in let y : ◌≡◌ {A = ℕ} 0 1 = cc in omega arith)
-    by-module (module-answer.Found m) a q = by-loader m (loader_check file m) a refl (unfold loadable_in loader_in in q)
+    by-module : (a : Result Module Refusal) → module_at file ≡ a → loadable_in file a ≡ Ok l → LoadableFound file l
+    by-module (Err x) a q = absurd (let z : Err x ≡ Ok l = unfold loadable_in in q in let y : ◌≡◌ {A = ℕ} 0 1 = cc in omega arith)
+    by-module (Ok m) a q = by-loader m (loader_check file m) a refl (unfold loadable_in loader_in in q)
 
 -- and the other way
-pub loadable-at : (file : List ℕ) (l : Loadable) → LoadableFound file l → loadable_at file ≡ answer.Found l
+pub loadable-at : (file : List ℕ) (l : Loadable) → LoadableFound file l → loadable_at file ≡ Ok l
 unfolding loadable_at loadable_in loadable_with loader_in
 loadable-at file l r = rw (r.sections, r.check, r.tables, r.entries) refl
 
@@ -155,7 +152,7 @@ pub tables-are : (file : List ℕ) (m : Module) → tables_of m.format m.parts.l
 unfolding tables_in
 tables-are file m = refl
 
-pub header-accepted : (file : List ℕ) (m : Module) → loader_check file m ≡ Accepted → header_check file m.format m.parts.loader.start.0 m.parts.loader.size ≡ Accepted
+pub header-accepted : (file : List ℕ) (m : Module) → loader_check file m ≡ Ok tt → header_check file m.format m.parts.loader.start.0 m.parts.loader.size ≡ Ok tt
 unfolding loader_check
 header-accepted file m e = accepted-first (header_check file m.format m.parts.loader.start.0 m.parts.loader.size) _ e
 
@@ -171,12 +168,12 @@ tables-within file l r =
 
 -- ---- what an accepted module tells of its auxiliary header
 
-module _ (file : List ℕ) (l : Loadable) (e : loadable_at file ≡ answer.Found l) where
+module _ (file : List ℕ) (l : Loadable) (e : loadable_at file ≡ Ok l) where
   found : ModuleFound file l.layout
   found = module-found file l.layout (loadable-found file l e).sections
 
   -- it opens
-  pub found-opened : (open_of file).verdict ≡ Accepted
+  pub found-opened : (open_of file).verdict ≡ Ok tt
   found-opened = found.opened
 
   -- the module's format is the file's
@@ -187,7 +184,7 @@ module _ (file : List ℕ) (l : Loadable) (e : loadable_at file ≡ answer.Found
   long-aux : (aux_layout (open_of file).summary.format).length ≤ (open_of file).summary.opthdr
   long-aux =
       let y = (open_of file).summary in
-      let test : module_check file y ≡ Accepted = found.check in
+      let test : module_check file y ≡ (Ok tt) = found.check in
       ltb-false y.opthdr (aux_layout y.format).length
       (unfold module_check in accepted-test (ltb y.opthdr (aux_layout y.format).length) _ (accepted-first (refuse_if (ltb y.opthdr (aux_layout y.format).length) _) _ found.check))
 

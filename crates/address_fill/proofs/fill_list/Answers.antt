@@ -1,22 +1,15 @@
-use Rattle.std.proofs.Common.{rules}
-use mathlib.Core.Path.{refl, sym, ◌∙◌}
+use mathlib.Core.Path.{sym, ◌∙◌}
 use native.Mathlib.Omega.{arith}
-use lib.ListN.{length, length-set}
+use lib.ListN.{length}
 use Rattle.address_table.specs.Table.{book_of}
 use Rattle.address_fill.proofs.Laws.{fill_start, fill-next, fill_end}
 use Rattle.address_fill.proofs.fill_list.Goals as goal
 
 pub loop-k-init : goal.loop-k-init
-loop-k-init c = let a = c.args in (search rules, refl, fill_start (book_of a.table.now) a.bench a.file.now a.f a.symbols a.strings a.list.now)
-
-pub address_at-requires : goal.address_at-requires
-address_at-requires c = let h = c.requires in let t = h.table in record { small = h.small; table = omega arith; names = h.names }
+loop-k-init c = let a = c.args in fill_start (book_of a.table.now) a.bench a.file.now a.f a.symbols a.strings a.list.now
 
 pub loop-k-preserved : goal.loop-k-preserved
-loop-k-preserved c = let a = c.args in (search rules, simp length-set c.loop-k.invariant.1, fill-next (book_of a.table.now) a.bench a.file.now a.f a.symbols a.strings c.loop-k.list c.loop-k.k (length a.list.now) (omega arith) c.address_at.ensures ∙ c.loop-k.invariant.2)
-
-pub shape_of-list : goal.shape_of-list
-shape_of-list c = c.loop-k.invariant.1
+loop-k-preserved c = let a = c.args in fill-next (book_of a.table.now) a.bench a.file.now a.f a.symbols a.strings c.loop-k.list c.loop-k.k (length a.list.now) (omega arith) c.address_at.ensures ∙ c.loop-k.invariant
 
 pub returns : goal.returns
-returns c = let a = c.args in sym (fill_end (book_of a.table.now) a.bench a.file.now a.f a.symbols a.strings c.loop-k.list c.loop-k.k (length a.list.now) (omega arith)) ∙ c.loop-k.invariant.2
+returns c = let a = c.args in sym (fill_end (book_of a.table.now) a.bench a.file.now a.f a.symbols a.strings c.loop-k.list c.loop-k.k (length a.list.now) (omega arith)) ∙ c.loop-k.invariant

@@ -1,4 +1,4 @@
-use Prim.Native.Nat.{◌-◌, ◌≤◌}
+use Prim.Native.Nat.{◌-◌}
 use mathlib.Core.Path.{◌≡◌}
 use lib.ListN.{length}
 use lib.Seq.{sets}
@@ -8,7 +8,4 @@ use Rattle.address_fill.specs.Fill.{places_from}
 use Rattle.address_fill.proofs.fill_list.Given as goal
 
 abbrev pub invariant-loop-k : goal.invariant-loop-k
-invariant-loop-k l = (l.k ≤ length l.initial.list) × (length l.list ≡ length l.initial.list) × (sets l.list l.k (filled (book_of l.table) l.bench (places_from l.file l.f l.symbols l.strings l.k (length l.initial.list - l.k))) ≡ filled (book_of l.table) l.bench (places_from l.file l.f l.symbols l.strings 0 (length l.initial.list)))
-
-abbrev pub decreases-loop-k : goal.decreases-loop-k
-decreases-loop-k l = length l.initial.list - l.k
+invariant-loop-k l = sets l.list l.k (filled (book_of l.table) l.bench (places_from l.file l.f l.symbols l.strings l.k (length l.initial.list - l.k))) ≡ filled (book_of l.table) l.bench (places_from l.file l.f l.symbols l.strings 0 (length l.initial.list))

@@ -1,5 +1,4 @@
-use Prim.Native.Nat.{◌-◌, ◌≤◌}
-use lib.ListN.{length}
+use Prim.Native.Nat.{◌-◌}
 use mathlib.Core.Path.{◌≡◌}
 use Rattle.frame.specs.Change.{each_from}
 use Rattle.written.specs.Written.{put_entry}
@@ -8,8 +7,4 @@ use Rattle.address_put.proofs.put_entries.Given as goal
 
 abbrev pub invariant-loop-i : goal.invariant-loop-i
 invariant-loop-i l =
-    (l.i ≤ l.l.tables.nreloc) × (length l.out ≡ length l.initial.out)
-    × ForFormat l.l.layout.format l.d l.imports (λ new. each_from (put_entry new l.file l.l) l.i (l.l.tables.nreloc - l.i) l.out ≡ each_from (put_entry new l.file l.l) 0 l.l.tables.nreloc l.initial.out)
-
-abbrev pub decreases-loop-i : goal.decreases-loop-i
-decreases-loop-i l = l.l.tables.nreloc - l.i
+    ForFormat l.l.layout.format l.d l.imports (λ new. each_from (put_entry new l.file l.l) l.i (l.l.tables.nreloc - l.i) l.out ≡ each_from (put_entry new l.file l.l) 0 l.l.tables.nreloc l.initial.out)

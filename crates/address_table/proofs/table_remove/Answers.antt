@@ -4,24 +4,26 @@ use Rattle.sheet.specs.Sheet.{sheet_head}
 use Rattle.address_book.specs.Book.{key}
 use Rattle.address_table.proofs.Calls.{remove-refused}
 use Rattle.address_table.proofs.table_remove.Goals as goal
+use Rattle.refusal.proofs.Order.{handed}
+use mathlib.Core.Path.{refl}
 
 pub remove_good-requires : goal.remove_good-requires
-remove_good-requires c = found c.check_key-v.ensures c.in-Accepted.is
+remove_good-requires c = found c.in_ok-check_key.ensures refl
 
-pub returns-in-Accepted-clause-cause : goal.returns-in-Accepted-clause-cause
-returns-in-Accepted-clause-cause c = let e = c.remove_good.ensures in e.answer
+pub returns-clause-cause : goal.returns-clause-cause
+returns-clause-cause c = let e = c.remove_good.ensures in e.answer
 
-pub returns-in-Accepted-clause-report : goal.returns-in-Accepted-clause-report
-returns-in-Accepted-clause-report c = let e = c.remove_good.ensures in ap sheet_head e.answer
+pub returns-clause-report : goal.returns-clause-report
+returns-clause-report c = let e = c.remove_good.ensures in ap sheet_head e.answer
 
-pub returns-in-Accepted-clause-table : goal.returns-in-Accepted-clause-table
-returns-in-Accepted-clause-table c = let e = c.remove_good.ensures in e.table
+pub returns-clause-table : goal.returns-clause-table
+returns-clause-table c = let e = c.remove_good.ensures in e.table
 
-pub returns-in-Refused-clause-cause : goal.returns-in-Refused-clause-cause
-returns-in-Refused-clause-cause c = let a = c.args in let e = remove-refused (key a.bench a.file_id a.name.now) a.table.now _ (found c.check_key-v.ensures c.in-Refused.is) in e.0
+pub returns-in_err-check_key-clause-cause : goal.returns-in_err-check_key-clause-cause
+returns-in_err-check_key-clause-cause c = rw (handed c.from_residual.ensures) (let a = c.args in let e = remove-refused (key a.bench a.file_id a.name.now) a.table.now _ (found c.in_err-check_key.ensures refl) in e.0)
 
-pub returns-in-Refused-clause-report : goal.returns-in-Refused-clause-report
-returns-in-Refused-clause-report c = let a = c.args in let e = remove-refused (key a.bench a.file_id a.name.now) a.table.now _ (found c.check_key-v.ensures c.in-Refused.is) in ap sheet_head e.0
+pub returns-in_err-check_key-clause-report : goal.returns-in_err-check_key-clause-report
+returns-in_err-check_key-clause-report c = rw (handed c.from_residual.ensures) (let a = c.args in let e = remove-refused (key a.bench a.file_id a.name.now) a.table.now _ (found c.in_err-check_key.ensures refl) in ap sheet_head e.0)
 
-pub returns-in-Refused-clause-table : goal.returns-in-Refused-clause-table
-returns-in-Refused-clause-table c = let a = c.args in let e = remove-refused (key a.bench a.file_id a.name.now) a.table.now _ (found c.check_key-v.ensures c.in-Refused.is) in e.1
+pub returns-in_err-check_key-clause-table : goal.returns-in_err-check_key-clause-table
+returns-in_err-check_key-clause-table c = let a = c.args in let e = remove-refused (key a.bench a.file_id a.name.now) a.table.now _ (found c.in_err-check_key.ensures refl) in e.1

@@ -1,5 +1,4 @@
-use Prim.Native.Nat.{◌-◌, ◌≤◌}
-use lib.ListN.{length}
+use Prim.Native.Nat.{◌-◌}
 use mathlib.Core.Path.{◌≡◌}
 use Rattle.apply.specs.Shift.{ForPlans}
 use Rattle.history.specs.Images.{apply_all, images}
@@ -8,9 +7,5 @@ use Rattle.apply_all.proofs.apply_entries32.Given as goal
 
 abbrev pub invariant-loop-k : goal.invariant-loop-k
 invariant-loop-k l =
-    (l.k ≤ l.l.tables.nreloc) × (length l.text ≡ length l.initial.text) × (length l.data ≡ length l.initial.data)
-    × ForPlans (relocatable_of l.file l.l) l.d l.moving l.from l.to (λ s. apply_all (relocations_from l.file l.l l.k (l.l.tables.nreloc - l.k)) s (images l.text l.data)
+    ForPlans (relocatable_of l.file l.l) l.d l.moving l.from l.to (λ s. apply_all (relocations_from l.file l.l l.k (l.l.tables.nreloc - l.k)) s (images l.text l.data)
     ≡ apply_all (relocations_from l.file l.l 0 l.l.tables.nreloc) s (images l.initial.text l.initial.data))
-
-abbrev pub decreases-loop-k : goal.decreases-loop-k
-decreases-loop-k l = l.l.tables.nreloc - l.k

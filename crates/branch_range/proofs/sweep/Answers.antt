@@ -1,7 +1,6 @@
 use Rattle.branch_range.proofs.CellLaws.{sweep-none, sweep-turn, sweep-first}
 use Rattle.branch_range.proofs.Known.{part-readable, part-words, part_small}
 use Rattle.object_entry.proofs.Entries.{entry-field}
-use Prim.Native.Nat.{◌-◌}
 use mathlib.Core.Path.{◌∙◌, sym, refl}
 use native.Mathlib.Omega.{arith}
 use Rattle.branch_range.proofs.sweep.Goals as goal

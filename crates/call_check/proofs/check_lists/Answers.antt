@@ -1,8 +1,10 @@
 use Rattle.call_check.proofs.Checks.{accepted-here, refused-here}
 use Rattle.call_check.proofs.check_lists.Goals as goal
+use Rattle.refusal.proofs.Order.{handed}
+use mathlib.Core.Path.{refl}
 
-pub returns-then-refuses : goal.returns-then-refuses
-returns-then-refuses c = refused-here _ c.check_list-v.ensures c.refuses.ensures c.if-refuses.true
+pub returns-in_err-check_list : goal.returns-in_err-check_list
+returns-in_err-check_list c = rw (handed c.from_residual.ensures) (refused-here _ c.in_err-check_list.ensures refl refl)
 
 pub returns : goal.returns
-returns c = accepted-here _ c.check_list-v.ensures c.refuses.ensures c.if-refuses.false c.check_list.ensures
+returns c = accepted-here _ c.in_ok-check_list.ensures refl refl c.check_list-2.ensures

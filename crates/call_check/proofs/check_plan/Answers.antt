@@ -1,12 +1,14 @@
 use mathlib.Core.Path.{◌∙◌}
 use Rattle.call_check.proofs.Checks.{accepted-here, list-told, plan-order, refused-here}
 use Rattle.call_check.proofs.check_plan.Goals as goal
+use Rattle.refusal.proofs.Order.{handed}
+use mathlib.Core.Path.{refl}
 
-pub returns-then-refuses : goal.returns-then-refuses
-returns-then-refuses c = let a = c.args in refused-here _ c.check_list-list.ensures c.refuses.ensures c.if-refuses.true ∙ plan-order a.file.now a.l _
+pub returns-in_err-check_list : goal.returns-in_err-check_list
+returns-in_err-check_list c = rw (handed c.from_residual.ensures) (let a = c.args in refused-here _ c.in_err-check_list.ensures refl refl ∙ plan-order a.file.now a.l _)
 
 pub check_fit-requires : goal.check_fit-requires
-check_fit-requires c = (c.requires, list-told _ _ c.check_list-list.ensures c.refuses.ensures c.if-refuses.false)
+check_fit-requires c = (c.requires, list-told _ _ c.in_ok-check_list.ensures refl refl)
 
 pub returns : goal.returns
-returns c = let a = c.args in accepted-here _ c.check_list-list.ensures c.refuses.ensures c.if-refuses.false c.check_fit.ensures ∙ plan-order a.file.now a.l _
+returns c = let a = c.args in accepted-here _ c.in_ok-check_list.ensures refl refl c.check_fit.ensures ∙ plan-order a.file.now a.l _

@@ -5,17 +5,17 @@ use Rattle.debug_section.proofs.Strings.{width_is, length_before, length-behind,
 use Rattle.debug_section.proofs.has_string.Goals as goal
 
 pub returns-then-o-bytes_in : goal.returns-then-o-bytes_in
-returns-then-o-bytes_in c = let a = c.args in rw c.in-One.is (length_before a.f a.file.now _ a.o (omega (arith, c.if-o-bytes_in.true, width_is a.f c.length_field-l.ensures c.bytes_in.ensures)))
+returns-then-o-bytes_in c = let a = c.args in rw c.in-Some.is (length_before a.f a.file.now _ a.o (omega (arith, c.if-o-bytes_in.true, width_is a.f c.length_field-l.ensures c.bytes_in.ensures)))
 
 pub returns-then-r-o : goal.returns-then-r-o
-returns-then-r-o c = let a = c.args in rw c.in-One.is (length-behind a.f a.file.now _ a.o (omega (arith, c.if-o-bytes_in.false, width_is a.f c.length_field-l.ensures c.bytes_in.ensures)) c.if-r-o.true)
+returns-then-r-o c = let a = c.args in rw c.in-Some.is (length-behind a.f a.file.now _ a.o (omega (arith, c.if-o-bytes_in.false, width_is a.f c.length_field-l.ensures c.bytes_in.ensures)) c.if-r-o.true)
 
 pub string_length-requires : goal.string_length-requires
-string_length-requires c = let a = c.args in (rw c.in-One.is at c.requires, omega (arith, c.if-o-bytes_in.false, width_is a.f c.length_field-l.ensures c.bytes_in.ensures), c.if-r-o.false)
+string_length-requires c = let a = c.args in (rw c.in-Some.is at c.requires, omega (arith, c.if-o-bytes_in.false, width_is a.f c.length_field-l.ensures c.bytes_in.ensures), c.if-r-o.false)
 
-pub returns-in-NotOne : goal.returns-in-NotOne
+pub returns-in-None : goal.returns-in-None
 unfolding has_string
-returns-in-NotOne c = rw c.in-NotOne.is refl
+returns-in-None c = rw c.in-None.is refl
 
 pub returns-else-r-o : goal.returns-else-r-o
-returns-else-r-o c = let a = c.args in rw c.in-One.is (string-judged a.f a.file.now _ a.o (omega (arith, c.if-o-bytes_in.false, width_is a.f c.length_field-l.ensures c.bytes_in.ensures)) c.if-r-o.false c.string_length.ensures c.ends_past.ensures)
+returns-else-r-o c = let a = c.args in rw c.in-Some.is (string-judged a.f a.file.now _ a.o (omega (arith, c.if-o-bytes_in.false, width_is a.f c.length_field-l.ensures c.bytes_in.ensures)) c.if-r-o.false c.string_length.ensures c.ends_past.ensures)

@@ -1,19 +1,20 @@
-use Rattle.std.proofs.Common.{rules}
-use mathlib.Core.Path.{◌≡◌, refl, ◌∙◌}
+use Rattle.std.proofs.Common.{◌<◌, length-take, get_or-take}
+use mathlib.Core.Path.{refl, ◌∙◌}
 use native.Mathlib.Omega.{arith}
 use Rattle.debug_section.specs.Debug.{debug_ranges}
 use Rattle.debug_section.proofs.Sections.{tally-more, ranges-few}
 use Rattle.debug_section.proofs.tally_debug.Goals as goal
 
-pub loop-i-init : goal.loop-i-init
+pub loop-s-init : goal.loop-s-init
 unfolding debug_ranges
-loop-i-init c = (search rules, refl)
+loop-s-init c = refl
 
 pub tally_step-t-requires : goal.tally_step-t-requires
-tally_step-t-requires c = rw c.loop-i.invariant.1 (omega (arith, ranges-few c.args.sections c.loop-i.i))
+tally_step-t-requires c = let a = c.args in rw c.loop-s.invariant (omega (arith, length-take a.count a.sections, ranges-few a.sections c.loop-s.s-index))
 
-pub loop-i-preserved : goal.loop-i-preserved
-loop-i-preserved c = (search rules, c.tally_step-t.ensures ∙ rw c.loop-i.invariant.1 (tally-more c.args.sections c.loop-i.i refl))
-
-pub returns : goal.returns
-returns c = let l = c.loop-i in let e : l.i ≡ c.args.count = omega arith in rw e at l.invariant.1
+pub loop-s-preserved : goal.loop-s-preserved
+loop-s-preserved c =
+    let a = c.args in
+    let l = c.loop-s in
+    let h : l.s-index < a.count = omega (arith, length-take a.count a.sections) in
+    rw get_or-take at c.tally_step-t.ensures ∙ rw l.invariant (tally-more a.sections l.s-index refl)

@@ -8,37 +8,29 @@ use Rattle.import_table.proofs.write_strings.Goals as goal
 
 pub loop-j-init : goal.loop-j-init
 unfolding string_start
-loop-j-init c = let a = c.args in (writing_start (string_row a.file.now a.ids) 2 (string-even a.file.now a.ids) a.out.now a.count, refl)
+loop-j-init c = let a = c.args in record { written = writing_start (string_row a.file.now a.ids) 2 (string-even a.file.now a.ids) a.out.now a.count; start = refl }
 
 pub string_length-len-requires : goal.string_length-len-requires
-string_length-len-requires c = (c.requires.0.inside, start-inside c.args.file.now c.args.ids c.args.count c.loop-j.j c.requires.0 c.loop-j.invariant.1 c.loop-j-test.true)
+string_length-len-requires c = (c.requires.0.inside, start-inside c.args.file.now c.args.ids c.args.count c.loop-j.j c.requires.0 c.loop-j.invariant.start c.loop-j-test.true)
 
 pub overflow_add-row : goal.overflow_add-row
-overflow_add-row c = omega (arith, end-inside c.args.file.now c.args.ids c.args.count c.loop-j.j c.requires.0 c.loop-j.invariant.1 c.string_length-len.ensures c.loop-j-test.true)
-
-pub overflow_mul-j : goal.overflow_mul-j
-overflow_mul-j c = omega (arith, c.loop-j-test.true, c.requires.1)
-
-pub write_row-requires : goal.write_row-requires
-write_row-requires c = omega (arith, c.loop-j-test.true, c.requires.1, c.loop-j.invariant.0.same)
+overflow_add-row c = omega (arith, end-inside c.args.file.now c.args.ids c.args.count c.loop-j.j c.requires.0 c.loop-j.invariant.start c.string_length-len.ensures c.loop-j-test.true)
 
 pub overflow_add-at : goal.overflow_add-at
-overflow_add-at c = omega (arith, end-inside c.args.file.now c.args.ids c.args.count c.loop-j.j c.requires.0 c.loop-j.invariant.1 c.string_length-len.ensures c.loop-j-test.true)
+overflow_add-at c = omega (arith, end-inside c.args.file.now c.args.ids c.args.count c.loop-j.j c.requires.0 c.loop-j.invariant.start c.string_length-len.ensures c.loop-j-test.true)
 
 pub overflow_add-at-in-loop-j : goal.overflow_add-at-in-loop-j
-overflow_add-at-in-loop-j c = omega (arith, end-inside c.args.file.now c.args.ids c.args.count c.loop-j.j c.requires.0 c.loop-j.invariant.1 c.string_length-len.ensures c.loop-j-test.true)
-
-pub overflow_add-j : goal.overflow_add-j
-overflow_add-j c = omega (arith, c.loop-j-test.true)
-
-pub loop-j-smaller : goal.loop-j-smaller
-loop-j-smaller c = omega (arith, c.loop-j-test.true)
+overflow_add-at-in-loop-j c = omega (arith, end-inside c.args.file.now c.args.ids c.args.count c.loop-j.j c.requires.0 c.loop-j.invariant.start c.string_length-len.ensures c.loop-j-test.true)
 
 pub loop-j-preserved : goal.loop-j-preserved
-loop-j-preserved c = let l = c.loop-j in let a = c.args in let e = c.string_length-len.ensures in (writing-next (string_row a.file.now a.ids) 2 (string-even a.file.now a.ids) l.out a.count l.j c.loop-j-test.true (row_is a.file.now a.ids a.count l.j c.requires.0 l.invariant.1 e) c.write_row.ensures l.invariant.0, next_start a.file.now a.ids a.count l.j c.requires.0 l.invariant.1 e)
-
-pub shape_of-out : goal.shape_of-out
-shape_of-out c = c.loop-j.invariant.0.same
+loop-j-preserved c =
+    let l = c.loop-j in
+    let a = c.args in
+    let e = c.string_length-len.ensures in
+    record {
+      written = writing-next (string_row a.file.now a.ids) 2 (string-even a.file.now a.ids) l.out a.count l.j c.loop-j-test.true (row_is a.file.now a.ids a.count l.j c.requires.0 l.invariant.start e) c.write_row.ensures l.invariant.written;
+      start = next_start a.file.now a.ids a.count l.j c.requires.0 l.invariant.start e;
+    }
 
 pub returns : goal.returns
-returns c = let l = c.loop-j in let a = c.args in writing-end (string_row a.file.now a.ids) 2 (string-even a.file.now a.ids) a.out.now a.count l.j c.loop-j-test.false c.requires.1 l.invariant.0
+returns c = let l = c.loop-j in let a = c.args in writing-end (string_row a.file.now a.ids) 2 (string-even a.file.now a.ids) a.out.now a.count l.j c.loop-j-test.false c.requires.1 l.invariant.written

@@ -1,7 +1,8 @@
 use Rattle.line_lookup.proofs.with_format.Goals as goal
+use Rattle.refusal.proofs.Order.{handed}
 
-pub returns-in-Refused : goal.returns-in-Refused
-returns-in-Refused c = rw c.in-Refused.is
+pub returns-in_err-t : goal.returns-in_err-t
+returns-in_err-t c = rw (handed c.from_residual.ensures) (rw c.in_err-t.was)
 
-pub returns-in-Found : goal.returns-in-Found
-returns-in-Found c = rw c.in-Found.is
+pub returns : goal.returns
+returns c = rw c.in_ok-t.was

@@ -1,5 +1,5 @@
 -- Before turn i the search has seen i entries: a turn reads the next one, and the reader steps past it.
-use Rattle.std.proofs.Common.{ℕ, suc, ◌≡◌, ◌+◌, ◌*◌, ◌<◌, ◌∙◌, refl, sym, ap, List, Bor, Bool, true, ltb, arith}
+use Rattle.std.proofs.Common.{ℕ, suc, ◌≡◌, ◌+◌, ◌*◌, ◌<◌, ◌∙◌, refl, sym, ap, List, Bor, true, ltb, arith}
 use borrow.Author.Tests.{ltb-true}
 use Rattle.format.specs.declared.Format.{Format}
 use Rattle.table_kind.specs.declared.TableKind.TheVariants.{Lines}

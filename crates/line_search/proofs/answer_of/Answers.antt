@@ -1,14 +1,20 @@
+use Rattle.std.proofs.Common.{◌≡◌, ◌∙◌, refl}
+use Rattle.std.specs.Prelude.{None, Option, Some, ok_or}
+use Rattle.line.specs.declared.LineError.TheVariants.{NoLine}
+use Rattle.line.specs.declared.LineFound.{LineFound}
 use Rattle.line.specs.Search.{answer_of, best_answer}
 use Rattle.line_search.proofs.answer_of.Goals as goal
 
+-- NOLINE where nothing was found
+best-given : (b : Option LineFound) → ok_or b NoLine ≡ best_answer b
+unfolding best_answer
+best-given None = refl
+best-given (Some x) = refl
+
 pub returns-then-s : goal.returns-then-s
-unfolding answer_of best_answer
+unfolding answer_of
 returns-then-s c = rw c.if-s.true
 
-pub returns-in-Nothing : goal.returns-in-Nothing
-unfolding answer_of best_answer
-returns-in-Nothing c = rw (c.if-s.false, c.in-Nothing.is)
-
-pub returns-in-At : goal.returns-in-At
-unfolding answer_of best_answer
-returns-in-At c = rw (c.if-s.false, c.in-At.is)
+pub returns : goal.returns
+unfolding answer_of
+returns c = rw c.if-s.false (c.ok_or.ensures.value ∙ best-given _)

@@ -1,10 +1,10 @@
 use Rattle.line.specs.Search.{is_below}
 use Rattle.line_search.proofs.is_below.Goals as goal
 
-pub returns-in-Nothing : goal.returns-in-Nothing
+pub returns-in-None : goal.returns-in-None
 unfolding is_below
-returns-in-Nothing c = rw c.in-Nothing.is
+returns-in-None c = rw c.in-None.is
 
-pub returns-in-At : goal.returns-in-At
+pub returns-in-Some : goal.returns-in-Some
 unfolding is_below
-returns-in-At c = rw c.in-At.is
+returns-in-Some c = rw c.in-Some.is

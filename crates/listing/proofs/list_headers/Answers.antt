@@ -5,12 +5,12 @@ use mathlib.Core.Path.{◌∙◌}
 use Rattle.listing.proofs.list_headers.Goals as goal
 
 pub put_summary-requires : goal.put_summary-requires
-put_summary-requires c = let o = c.open-o.ensures.cause in rw o (opened_inside c.args.file.now (rw o at c.in-Accepted.is)).few
+put_summary-requires c = let o = c.open-o.ensures.cause in rw o (opened_inside c.args.file.now (rw o at c.in-Ok.is)).few
 
-pub returns-in-Refused : goal.returns-in-Refused
+pub returns-in-Err : goal.returns-in-Err
 unfolding listing
-returns-in-Refused c = let n = c.count_in.ensures in let e = c.put_refusal_line.ensures in rw (← c.open-o.ensures.cause, c.in-Refused.is, ← c.refusal_head.ensures) record { next = n.same ∙ e.next; text = e.text; within = n.within }
+returns-in-Err c = let n = c.count_in.ensures in let e = c.put_refusal_line.ensures in rw (← c.open-o.ensures.cause, c.in-Err.is, ← c.refusal_head.ensures) record { next = n.same ∙ e.next; text = e.text; within = n.within }
 
-pub returns-in-Accepted : goal.returns-in-Accepted
+pub returns-in-Ok : goal.returns-in-Ok
 unfolding listing
-returns-in-Accepted c = let n = c.count_in-in-Accepted.ensures in let e = c.put_summary.ensures in rw (← c.open-o.ensures.cause, c.in-Accepted.is) record { next = n.same ∙ e.next; text = e.text; within = n.within }
+returns-in-Ok c = let n = c.count_in-in-Ok.ensures in let e = c.put_summary.ensures in rw (← c.open-o.ensures.cause, c.in-Ok.is) record { next = n.same ∙ e.next; text = e.text; within = n.within }

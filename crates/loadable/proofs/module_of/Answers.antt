@@ -3,22 +3,24 @@ use Rattle.loadable.specs.Loadable.{loadable_at, loadable_in, report_of_module}
 use Rattle.module.proofs.Accepted.{module-inside}
 use Rattle.word.proofs.Test.{found}
 use Rattle.loadable.proofs.module_of.Goals as goal
+use Rattle.refusal.proofs.Order.{handed}
+use mathlib.Core.Path.{refl}
 
 pub load-requires : goal.load-requires
-load-requires c = module-inside _ _ (found c.find_module-a.ensures c.in-Found.is)
+load-requires c = module-inside _ _ (found c.in_ok-m.ensures refl)
 
-pub returns-in-Refused-clause-cause : goal.returns-in-Refused-clause-cause
+pub returns-in_err-m-clause-cause : goal.returns-in_err-m-clause-cause
 unfolding loadable_at loadable_in
-returns-in-Refused-clause-cause c = let h = found c.find_module-a.ensures c.in-Refused.is in rw h
+returns-in_err-m-clause-cause c = rw (handed c.from_residual.ensures) (let h = found c.in_err-m.ensures refl in rw h)
 
-pub returns-in-Refused-clause-report : goal.returns-in-Refused-clause-report
+pub returns-in_err-m-clause-report : goal.returns-in_err-m-clause-report
 unfolding loadable_at loadable_in
-returns-in-Refused-clause-report c = let h = found c.find_module-a.ensures c.in-Refused.is in rw h
+returns-in_err-m-clause-report c = rw (handed c.from_residual.ensures) (let h = found c.in_err-m.ensures refl in rw h)
 
-pub returns-in-Found-clause-cause : goal.returns-in-Found-clause-cause
+pub returns-clause-cause : goal.returns-clause-cause
 unfolding loadable_at
-returns-in-Found-clause-cause c = let h = found c.find_module-a.ensures c.in-Found.is in rw h c.load.ensures
+returns-clause-cause c = let h = found c.in_ok-m.ensures refl in rw h c.load.ensures
 
-pub returns-in-Found-clause-report : goal.returns-in-Found-clause-report
+pub returns-clause-report : goal.returns-clause-report
 unfolding loadable_at
-returns-in-Found-clause-report c = let h = found c.find_module-a.ensures c.in-Found.is in rw h (ap (report_of_module _) c.load.ensures)
+returns-clause-report c = let h = found c.in_ok-m.ensures refl in rw h (ap (report_of_module _) c.load.ensures)

@@ -1,11 +1,13 @@
 use Rattle.image.proofs.Calls.{file-accepted, file-refused, found-valid}
 use Rattle.module_images.proofs.build_images.Goals as goal
+use Rattle.refusal.proofs.Order.{handed}
+use mathlib.Core.Path.{refl}
 
 pub build_valid-requires : goal.build_valid-requires
-build_valid-requires c = found-valid _ c.module_of-a.ensures.cause _ c.in-Found.is
+build_valid-requires c = found-valid _ c.in_ok-l.ensures.cause _ refl
 
-pub returns-in-Refused : goal.returns-in-Refused
-returns-in-Refused c = let told = file-refused _ c.module_of-a.ensures.cause _ _ _ c.in-Refused.is in record { cause = told.0; report = told.1.0; images = told.1.1 }
+pub returns-in_err-l : goal.returns-in_err-l
+returns-in_err-l c = rw (handed c.from_residual.ensures) (let told = file-refused _ c.in_err-l.ensures.cause _ _ _ refl in record { cause = told.0; report = told.1.0; images = told.1.1 })
 
-pub returns-in-Found : goal.returns-in-Found
-returns-in-Found c = let told = file-accepted _ c.module_of-a.ensures.cause _ _ _ _ _ c.in-Found.is (c.build_valid.ensures.cause, c.build_valid.ensures.images) in record { cause = told.0; report = told.1.0; images = told.1.1 }
+pub returns : goal.returns
+returns c = let told = file-accepted _ c.in_ok-l.ensures.cause _ _ _ _ _ refl (c.build_valid.ensures.cause, c.build_valid.ensures.images) in record { cause = told.0; report = told.1.0; images = told.1.1 }

@@ -1,4 +1,4 @@
-use Prim.Native.Nat.{◌≤◌, ◌-◌}
+use Prim.Native.Nat.{◌-◌}
 use lib.ListN.{length}
 use mathlib.Core.Path.{◌≡◌}
 use Rattle.refusal.specs.Order.{first_of}
@@ -7,7 +7,9 @@ use Rattle.object.specs.Check.{table_check}
 use Rattle.object.proofs.check_tables.Given as goal
 
 abbrev pub invariant-loop-k : goal.invariant-loop-k
-invariant-loop-k l = (l.k ≤ l.y.count) × (l.len ≡ length l.file) × (l.place ≡ bytes_before (length l.file) l.y l.k) × (l.first ≡ entries_before (length l.file) l.y l.k) × (first_of (table_check l.file l.y) 0 l.y.count ≡ first_of (table_check l.file l.y) l.k (l.y.count - l.k))
-
-abbrev pub decreases-loop-k : goal.decreases-loop-k
-decreases-loop-k l = l.y.count - l.k
+invariant-loop-k l =
+    record {
+      place : l.place ≡ bytes_before (length l.file) l.y l.k;
+      first : l.first ≡ entries_before (length l.file) l.y l.k;
+      rest : first_of (table_check l.file l.y) 0 l.y.count ≡ first_of (table_check l.file l.y) l.k (l.y.count - l.k);
+    }

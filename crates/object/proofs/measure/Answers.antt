@@ -7,25 +7,19 @@ use Rattle.object.proofs.measure.Goals as goal
 
 pub loop-k-init : goal.loop-k-init
 unfolding bytes_before entries_before
-loop-k-init c = (omega arith, refl, refl, refl)
+loop-k-init c = record { place = refl; first = refl }
 
 pub part_of-s-requires : goal.part_of-s-requires
 part_of-s-requires c = let a = c.args in (c.loop-k-test.true, (ready-inside a.file.now a.y a.t c.requires.opened).few)
 
 pub overflow_add-place : goal.overflow_add-place
-overflow_add-place c = let a = c.args in let h = part-here a.y c.loop-k.k c.part_of-s.ensures c.loop-k.invariant.1 c.loop-k.invariant.2 c.loop-k.invariant.3 in omega (arith, place-fits a.file.now a.y a.t c.requires c.loop-k.k c.loop-k-test.true c.loop-k.invariant.2 h)
+overflow_add-place c = let a = c.args in let h = part-here a.y c.loop-k.k c.part_of-s.ensures refl c.loop-k.invariant.place c.loop-k.invariant.first in omega (arith, place-fits a.file.now a.y a.t c.requires c.loop-k.k c.loop-k-test.true c.loop-k.invariant.place h)
 
 pub overflow_add-first : goal.overflow_add-first
-overflow_add-first c = let a = c.args in let h = part-here a.y c.loop-k.k c.part_of-s.ensures c.loop-k.invariant.1 c.loop-k.invariant.2 c.loop-k.invariant.3 in omega (arith, first_fits a.file.now a.y a.t c.requires c.loop-k.k c.loop-k-test.true c.loop-k.invariant.3 h)
-
-pub overflow_add-k : goal.overflow_add-k
-overflow_add-k c = let a = c.args in let i = (ready-inside a.file.now a.y a.t c.requires.opened).few in omega (arith, c.loop-k-test.true)
-
-pub loop-k-smaller : goal.loop-k-smaller
-loop-k-smaller c = omega (arith, c.loop-k-test.true)
+overflow_add-first c = let a = c.args in let h = part-here a.y c.loop-k.k c.part_of-s.ensures refl c.loop-k.invariant.place c.loop-k.invariant.first in omega (arith, first_fits a.file.now a.y a.t c.requires c.loop-k.k c.loop-k-test.true c.loop-k.invariant.first h)
 
 pub loop-k-preserved : goal.loop-k-preserved
-loop-k-preserved c = let a = c.args in let h = part-here a.y c.loop-k.k c.part_of-s.ensures c.loop-k.invariant.1 c.loop-k.invariant.2 c.loop-k.invariant.3 in (omega (arith, c.loop-k-test.true), c.loop-k.invariant.1, bytes_next (length a.file.now) a.y c.loop-k.k c.loop-k.invariant.2 h, entries_next (length a.file.now) a.y c.loop-k.k c.loop-k.invariant.3 h)
+loop-k-preserved c = let a = c.args in let h = part-here a.y c.loop-k.k c.part_of-s.ensures refl c.loop-k.invariant.place c.loop-k.invariant.first in record { place = bytes_next (length a.file.now) a.y c.loop-k.k c.loop-k.invariant.place h; first = entries_next (length a.file.now) a.y c.loop-k.k c.loop-k.invariant.first h }
 
 pub returns : goal.returns
-returns c = let a = c.args in measured (length a.file.now) a.y c.loop-k.k c.loop-k.invariant.0 c.loop-k-test.false c.loop-k.invariant.2 c.loop-k.invariant.3
+returns c = let a = c.args in measured (length a.file.now) a.y c.loop-k.k c.loop-k.auto.k-end c.loop-k-test.false c.loop-k.invariant.place c.loop-k.invariant.first

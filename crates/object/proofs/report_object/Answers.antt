@@ -1,7 +1,7 @@
 use Rattle.object.proofs.report_object.Goals as goal
 
-pub returns-in-Refused : goal.returns-in-Refused
-returns-in-Refused c = rw (c.in-Refused.is, c.refusal_head.ensures)
+pub returns-in-Err : goal.returns-in-Err
+returns-in-Err c = rw (c.in-Err.is, c.refusal_head.ensures)
 
-pub returns-in-Found : goal.returns-in-Found
-returns-in-Found c = rw (c.in-Found.is, c.accepted_head.ensures)
+pub returns-in-Ok : goal.returns-in-Ok
+returns-in-Ok c = rw (c.in-Ok.is, c.accepted_head.ensures)

@@ -1,4 +1,4 @@
-use Rattle.std.proofs.Common.{◌≡◌, ◌-◌, ◌≤◌, length}
+use Rattle.std.proofs.Common.{◌≡◌, ◌-◌, length}
 use Rattle.object_history.specs.Entry.{apply_all}
 use Rattle.object.specs.Sections.{bytes_before, entries_before}
 use Rattle.object_plan.specs.Object.{entries_in, object_of}
@@ -7,8 +7,8 @@ use Rattle.object_apply.proofs.apply_entries.Given as goal
 
 abbrev pub invariant-loop-k : goal.invariant-loop-k
 invariant-loop-k l =
-    (l.k ≤ l.y.count) × (l.len ≡ length l.file) × (l.place ≡ bytes_before (length l.file) l.y l.k) × (l.first ≡ entries_before (length l.file) l.y l.k) × (length l.buffer ≡ length l.initial.buffer)
-    × (apply_all (entries_in l.file l.y l.k (l.y.count - l.k)) (address_shifts l.to l.from) l.buffer ≡ apply_all (object_of l.file).entries (address_shifts l.to l.from) l.initial.buffer)
-
-abbrev pub decreases-loop-k : goal.decreases-loop-k
-decreases-loop-k l = l.y.count - l.k
+    record {
+      place : l.place ≡ bytes_before (length l.file) l.y l.k;
+      first : l.first ≡ entries_before (length l.file) l.y l.k;
+      rest : apply_all (entries_in l.file l.y l.k (l.y.count - l.k)) (address_shifts l.to l.from) l.buffer ≡ apply_all (object_of l.file).entries (address_shifts l.to l.from) l.initial.buffer;
+    }

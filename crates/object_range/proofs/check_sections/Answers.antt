@@ -13,39 +13,30 @@ use Rattle.object_range.proofs.check_sections.Goals as goal
 
 pub loop-k-init : goal.loop-k-init
 unfolding bytes_before entries_before
-loop-k-init c = let a = c.args in (omega arith, refl, refl, refl, first-start (section_range a.file.now a.y (address_shifts a.to.now a.from.now) a.source a.bytes.now) a.y.count)
+loop-k-init c = let a = c.args in (refl, refl, first-start (section_range a.file.now a.y (address_shifts a.to.now a.from.now) a.source a.bytes.now) a.y.count)
 
 pub part_of-s-requires : goal.part_of-s-requires
 part_of-s-requires c = let a = c.args in (c.loop-k-test.true, sections-few a.file.now a.y a.t c.requires.0)
 
 pub first_out-x-requires-clause-part_ready : goal.first_out-x-requires-clause-part_ready
-first_out-x-requires-clause-part_ready c = let a = c.args in let h = part-here a.y c.loop-k.k c.part_of-s.ensures c.loop-k.invariant.1 c.loop-k.invariant.2 c.loop-k.invariant.3 in (part-good a.file.now a.y a.t c.requires.0 c.loop-k.k c.loop-k-test.true h, origin-holds a.file.now a.y a.t c.requires.0 (address_shifts a.to.now a.from.now) a.source a.bytes.now c.loop-k.k h c.origin_of-origin.ensures c.requires.1 c.loop-k-test.true)
-
-pub first_out-x-requires-clause-to_len : goal.first_out-x-requires-clause-to_len
-first_out-x-requires-clause-to_len c = let a = c.args in let h = part-here a.y c.loop-k.k c.part_of-s.ensures c.loop-k.invariant.1 c.loop-k.invariant.2 c.loop-k.invariant.3 in (c.requires.2, c.requires.3)
+first_out-x-requires-clause-part_ready c = let a = c.args in let h = part-here a.y c.loop-k.k c.part_of-s.ensures refl c.loop-k.invariant.0 c.loop-k.invariant.1 in (part-good a.file.now a.y a.t c.requires.0 c.loop-k.k c.loop-k-test.true h, origin-holds a.file.now a.y a.t c.requires.0 (address_shifts a.to.now a.from.now) a.source a.bytes.now c.loop-k.k h c.origin_of-origin.ensures c.requires.1 c.loop-k-test.true)
 
 pub name_of-requires : goal.name_of-requires
-name_of-requires c = let a = c.args in let h = part-here a.y c.loop-k.k c.part_of-s.ensures c.loop-k.invariant.1 c.loop-k.invariant.2 c.loop-k.invariant.3 in omega (arith, (part-good a.file.now a.y a.t c.requires.0 c.loop-k.k c.loop-k-test.true h).entries.ready.numbered, c.if-x-s.true)
+name_of-requires c = let a = c.args in let h = part-here a.y c.loop-k.k c.part_of-s.ensures refl c.loop-k.invariant.0 c.loop-k.invariant.1 in omega (arith, (part-good a.file.now a.y a.t c.requires.0 c.loop-k.k c.loop-k-test.true h).entries.ready.numbered, c.if-x-s.true)
 
 pub returns-then-x-s : goal.returns-then-x-s
 unfolding sections_range
-returns-then-x-s c = let a = c.args in let h = part-here a.y c.loop-k.k c.part_of-s.ensures c.loop-k.invariant.1 c.loop-k.invariant.2 c.loop-k.invariant.3 in let v = section-refused a.file.now a.y a.t c.requires.0 (address_shifts a.to.now a.from.now) a.source a.bytes.now c.loop-k.k h c.origin_of-origin.ensures c.first_out-x.ensures c.if-x-s.true in rw c.name_of.ensures (v ∙ sym (c.loop-k.invariant.4 ∙ first-stop (section_range a.file.now a.y (address_shifts a.to.now a.from.now) a.source a.bytes.now) a.y.count c.loop-k.k c.loop-k-test.true (ap is_refused (sym v))))
+returns-then-x-s c = let a = c.args in let h = part-here a.y c.loop-k.k c.part_of-s.ensures refl c.loop-k.invariant.0 c.loop-k.invariant.1 in let v = section-refused a.file.now a.y a.t c.requires.0 (address_shifts a.to.now a.from.now) a.source a.bytes.now c.loop-k.k h c.origin_of-origin.ensures c.first_out-x.ensures c.if-x-s.true in rw c.name_of.ensures (v ∙ sym (c.loop-k.invariant.2 ∙ first-stop (section_range a.file.now a.y (address_shifts a.to.now a.from.now) a.source a.bytes.now) a.y.count c.loop-k.k c.loop-k-test.true (ap is_refused (sym v))))
 
 pub overflow_add-place : goal.overflow_add-place
-overflow_add-place c = let a = c.args in let h = part-here a.y c.loop-k.k c.part_of-s.ensures c.loop-k.invariant.1 c.loop-k.invariant.2 c.loop-k.invariant.3 in omega (arith, place-fits a.file.now a.y a.t c.requires.0.sections c.loop-k.k c.loop-k-test.true c.loop-k.invariant.2 h)
+overflow_add-place c = let a = c.args in let h = part-here a.y c.loop-k.k c.part_of-s.ensures refl c.loop-k.invariant.0 c.loop-k.invariant.1 in omega (arith, place-fits a.file.now a.y a.t c.requires.0.sections c.loop-k.k c.loop-k-test.true c.loop-k.invariant.0 h)
 
 pub overflow_add-first : goal.overflow_add-first
-overflow_add-first c = let a = c.args in let h = part-here a.y c.loop-k.k c.part_of-s.ensures c.loop-k.invariant.1 c.loop-k.invariant.2 c.loop-k.invariant.3 in omega (arith, first_fits a.file.now a.y a.t c.requires.0.sections c.loop-k.k c.loop-k-test.true c.loop-k.invariant.3 h)
-
-pub overflow_add-k : goal.overflow_add-k
-overflow_add-k c = let a = c.args in omega (arith, sections-few a.file.now a.y a.t c.requires.0, c.loop-k-test.true)
-
-pub loop-k-smaller : goal.loop-k-smaller
-loop-k-smaller c = omega (arith, c.loop-k-test.true)
+overflow_add-first c = let a = c.args in let h = part-here a.y c.loop-k.k c.part_of-s.ensures refl c.loop-k.invariant.0 c.loop-k.invariant.1 in omega (arith, first_fits a.file.now a.y a.t c.requires.0.sections c.loop-k.k c.loop-k-test.true c.loop-k.invariant.1 h)
 
 pub loop-k-preserved : goal.loop-k-preserved
-loop-k-preserved c = let a = c.args in let h = part-here a.y c.loop-k.k c.part_of-s.ensures c.loop-k.invariant.1 c.loop-k.invariant.2 c.loop-k.invariant.3 in let v = section-accepted a.file.now a.y a.t c.requires.0 (address_shifts a.to.now a.from.now) a.source a.bytes.now c.loop-k.k h c.origin_of-origin.ensures c.first_out-x.ensures c.if-x-s.false in (omega (arith, c.loop-k-test.true), c.loop-k.invariant.1, bytes_next (length a.file.now) a.y c.loop-k.k c.loop-k.invariant.2 h, entries_next (length a.file.now) a.y c.loop-k.k c.loop-k.invariant.3 h, c.loop-k.invariant.4 ∙ first-turn (section_range a.file.now a.y (address_shifts a.to.now a.from.now) a.source a.bytes.now) a.y.count c.loop-k.k c.loop-k-test.true (ap is_refused (sym v)))
+loop-k-preserved c = let a = c.args in let h = part-here a.y c.loop-k.k c.part_of-s.ensures refl c.loop-k.invariant.0 c.loop-k.invariant.1 in let v = section-accepted a.file.now a.y a.t c.requires.0 (address_shifts a.to.now a.from.now) a.source a.bytes.now c.loop-k.k h c.origin_of-origin.ensures c.first_out-x.ensures c.if-x-s.false in (bytes_next (length a.file.now) a.y c.loop-k.k c.loop-k.invariant.0 h, entries_next (length a.file.now) a.y c.loop-k.k c.loop-k.invariant.1 h, c.loop-k.invariant.2 ∙ first-turn (section_range a.file.now a.y (address_shifts a.to.now a.from.now) a.source a.bytes.now) a.y.count c.loop-k.k c.loop-k-test.true (ap is_refused (sym v)))
 
 pub returns : goal.returns
 unfolding sections_range
-returns c = let a = c.args in sym (c.loop-k.invariant.4 ∙ first-end (section_range a.file.now a.y (address_shifts a.to.now a.from.now) a.source a.bytes.now) a.y.count c.loop-k.k c.loop-k-test.false)
+returns c = let a = c.args in sym (c.loop-k.invariant.2 ∙ first-end (section_range a.file.now a.y (address_shifts a.to.now a.from.now) a.source a.bytes.now) a.y.count c.loop-k.k c.loop-k-test.false)

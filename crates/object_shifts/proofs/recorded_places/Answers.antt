@@ -7,32 +7,11 @@ use Rattle.object_shifts.proofs.Places.{places-start, places-turn}
 use Rattle.object_shifts.proofs.recorded_places.Goals as goal
 
 pub loop-k-init : goal.loop-k-init
-loop-k-init c = let a = c.args in (omega arith, places-start a.y.sections (λ j. (get_or a.y.sections j blank_section).vaddr.0))
-
-pub offset_bounds-sections-k : goal.offset_bounds-sections-k
-offset_bounds-sections-k c = omega (arith, c.loop-k-test.true, c.requires)
-
-pub bounds-sections-k : goal.bounds-sections-k
-bounds-sections-k c = omega (arith, c.loop-k-test.true, c.requires)
-
-pub overflow_add-out : goal.overflow_add-out
-overflow_add-out c = omega (arith, c.loop-k-test.true, c.requires)
-
-pub offset_bounds-out-k : goal.offset_bounds-out-k
-offset_bounds-out-k c = omega (arith, c.loop-k-test.true, c.requires)
-
-pub bounds-out-k : goal.bounds-out-k
-bounds-out-k c = omega (arith, c.loop-k-test.true, c.requires)
-
-pub overflow_add-k : goal.overflow_add-k
-overflow_add-k c = omega (arith, c.loop-k-test.true, c.requires)
-
-pub loop-k-smaller : goal.loop-k-smaller
-loop-k-smaller c = omega (arith, c.loop-k-test.true)
+loop-k-init c = let a = c.args in places-start a.y.sections (λ j. (get_or a.y.sections j blank_section).vaddr.0)
 
 pub loop-k-preserved : goal.loop-k-preserved
-loop-k-preserved c = let a = c.args in (omega (arith, c.loop-k-test.true), places-turn a.y.sections (λ j. (get_or a.y.sections j blank_section).vaddr.0) c.loop-k.k c.loop-k.invariant.1 c.placed_address.ensures)
+loop-k-preserved c = let a = c.args in places-turn a.y.sections (λ j. (get_or a.y.sections j blank_section).vaddr.0) c.loop-k.k c.loop-k.invariant c.placed_address.ensures
 
 pub returns : goal.returns
 unfolding recorded_of
-returns c = let a = c.args in c.loop-k.invariant.1 ∙ ap (places_by a.y.sections (λ j. (get_or a.y.sections j blank_section).vaddr.0)) (omega (arith, c.loop-k-test.false, c.loop-k.invariant.0))
+returns c = let a = c.args in c.loop-k.invariant ∙ ap (places_by a.y.sections (λ j. (get_or a.y.sections j blank_section).vaddr.0)) (omega arith)

@@ -10,34 +10,19 @@ use Rattle.object_table.proofs.write_sections.Goals as goal
 
 pub loop-k-init : goal.loop-k-init
 unfolding bytes_before entries_before
-loop-k-init c = let a = c.args in (writing_start (section_row (length a.file.now) a.y) 5 (section-even (length a.file.now) a.y) a.out.now a.y.count, refl, refl, refl)
+loop-k-init c = let a = c.args in (writing_start (section_row (length a.file.now) a.y) 5 (section-even (length a.file.now) a.y) a.out.now a.y.count, refl, refl)
 
 pub part_of-s-requires : goal.part_of-s-requires
 part_of-s-requires c = let a = c.args in (c.loop-k-test.true, (ready-inside a.file.now a.y a.t c.requires.0.opened).few)
 
-pub overflow_mul-k : goal.overflow_mul-k
-overflow_mul-k c = let a = c.args in omega (arith, (ready-inside a.file.now a.y a.t c.requires.0.opened).few, c.loop-k-test.true)
-
-pub write_row-requires : goal.write_row-requires
-write_row-requires c = omega (arith, c.loop-k-test.true, c.requires.1, c.loop-k.invariant.0.same)
-
 pub overflow_add-place : goal.overflow_add-place
-overflow_add-place c = let a = c.args in let v = c.loop-k.invariant in let l = c.loop-k.k in omega (arith, place-fits a.file.now a.y a.t c.requires.0 l c.loop-k-test.true v.2 (part-here a.y l c.part_of-s.ensures v.1 v.2 v.3))
+overflow_add-place c = let a = c.args in let v = c.loop-k.invariant in let l = c.loop-k.k in omega (arith, place-fits a.file.now a.y a.t c.requires.0 l c.loop-k-test.true v.1 (part-here a.y l c.part_of-s.ensures refl v.1 v.2))
 
 pub overflow_add-first : goal.overflow_add-first
-overflow_add-first c = let a = c.args in let v = c.loop-k.invariant in let l = c.loop-k.k in omega (arith, first_fits a.file.now a.y a.t c.requires.0 l c.loop-k-test.true v.3 (part-here a.y l c.part_of-s.ensures v.1 v.2 v.3))
-
-pub overflow_add-k : goal.overflow_add-k
-overflow_add-k c = let a = c.args in omega (arith, (ready-inside a.file.now a.y a.t c.requires.0.opened).few, c.loop-k-test.true)
-
-pub loop-k-smaller : goal.loop-k-smaller
-loop-k-smaller c = omega (arith, c.loop-k-test.true)
+overflow_add-first c = let a = c.args in let v = c.loop-k.invariant in let l = c.loop-k.k in omega (arith, first_fits a.file.now a.y a.t c.requires.0 l c.loop-k-test.true v.2 (part-here a.y l c.part_of-s.ensures refl v.1 v.2))
 
 pub loop-k-preserved : goal.loop-k-preserved
-loop-k-preserved c = let a = c.args in let v = c.loop-k.invariant in let l = c.loop-k.k in let h = part-here a.y l c.part_of-s.ensures v.1 v.2 v.3 in (writing-next (section_row (length a.file.now) a.y) 5 (section-even (length a.file.now) a.y) c.loop-k.out a.y.count l c.loop-k-test.true (c.part_row-row.ensures ∙ ap part_row h) c.write_row.ensures v.0, v.1, bytes_next (length a.file.now) a.y l v.2 h, entries_next (length a.file.now) a.y l v.3 h)
-
-pub shape_of-out : goal.shape_of-out
-shape_of-out c = c.loop-k.invariant.0.same
+loop-k-preserved c = let a = c.args in let v = c.loop-k.invariant in let l = c.loop-k.k in let h = part-here a.y l c.part_of-s.ensures refl v.1 v.2 in (writing-next (section_row (length a.file.now) a.y) 5 (section-even (length a.file.now) a.y) c.loop-k.out a.y.count l c.loop-k-test.true (c.part_row-row.ensures ∙ ap part_row h) c.write_row.ensures v.0, bytes_next (length a.file.now) a.y l v.1 h, entries_next (length a.file.now) a.y l v.2 h)
 
 pub returns : goal.returns
 returns c = let a = c.args in writing-end (section_row (length a.file.now) a.y) 5 (section-even (length a.file.now) a.y) a.out.now a.y.count c.loop-k.k c.loop-k-test.false c.requires.1 c.loop-k.invariant.0

@@ -10,16 +10,16 @@ pub returns-then-len-lt2 : goal.returns-then-len-lt2
 returns-then-len-lt2 c = starts-short c.args.file.now c.if-len-gt-FILE_LIMIT.false c.if-len-lt2.true
 
 pub read_field-requires : goal.read_field-requires
-read_field-requires c = rw c.two.ensures c.if-len-lt2.false
+read_field-requires c = rw c.at.ensures c.if-len-lt2.false
 
-pub returns-then-refuses : goal.returns-then-refuses
-returns-then-refuses c = starts-refused c.args.file.now c.if-len-gt-FILE_LIMIT.false c.if-len-lt2.false _ (found (rw (c.read_field.ensures.value, c.two.ensures) at c.format_of-a.ensures) c.in-Known.is) (told c.check_header-v.ensures c.refuses.ensures c.if-refuses.true)
+pub returns-then-is_err : goal.returns-then-is_err
+returns-then-is_err c = starts-refused c.args.file.now c.if-len-gt-FILE_LIMIT.false c.if-len-lt2.false _ (found (rw (c.read_field.ensures.value, c.at.ensures) at c.format_of-a.ensures) c.in-Some.is) (told c.check_header-v.ensures c.is_err.ensures.value c.if-is_err.true)
 
 pub starts_as-requires : goal.starts_as-requires
-starts_as-requires c = (c.if-len-gt-FILE_LIMIT.false, told-accepted c.check_header-v.ensures c.refuses.ensures c.if-refuses.false)
+starts_as-requires c = (c.if-len-gt-FILE_LIMIT.false, told-accepted c.check_header-v.ensures c.is_err.ensures.value c.if-is_err.false)
 
-pub returns-in-Unknown : goal.returns-in-Unknown
-returns-in-Unknown c = starts-unknown c.args.file.now c.if-len-gt-FILE_LIMIT.false c.if-len-lt2.false (found (rw (c.read_field.ensures.value, c.two.ensures) at c.format_of-a.ensures) c.in-Unknown.is)
+pub returns-in-None : goal.returns-in-None
+returns-in-None c = starts-unknown c.args.file.now c.if-len-gt-FILE_LIMIT.false c.if-len-lt2.false (found (rw (c.read_field.ensures.value, c.at.ensures) at c.format_of-a.ensures) c.in-None.is)
 
-pub returns-else-refuses : goal.returns-else-refuses
-returns-else-refuses c = starts-known c.args.file.now c.if-len-gt-FILE_LIMIT.false c.if-len-lt2.false _ (found (rw (c.read_field.ensures.value, c.two.ensures) at c.format_of-a.ensures) c.in-Known.is) (told-accepted c.check_header-v.ensures c.refuses.ensures c.if-refuses.false) c.starts_as.ensures
+pub returns-else-is_err : goal.returns-else-is_err
+returns-else-is_err c = starts-known c.args.file.now c.if-len-gt-FILE_LIMIT.false c.if-len-lt2.false _ (found (rw (c.read_field.ensures.value, c.at.ensures) at c.format_of-a.ensures) c.in-Some.is) (told-accepted c.check_header-v.ensures c.is_err.ensures.value c.if-is_err.false) c.starts_as.ensures

@@ -1,7 +1,4 @@
-use Rattle.std.proofs.Common.{rules}
-use Prim.Native.Nat.{◌-◌}
-use mathlib.Core.Path.{◌≡◌, refl, ◌∙◌}
-use native.Mathlib.Omega.{arith}
+use mathlib.Core.Path.{refl, ◌∙◌}
 use lib.ListN.{length}
 use Rattle.file_header.proofs.Fields.{section-whole}
 use Rattle.offset.specs.Offset.{loader_in}
@@ -10,13 +7,10 @@ use Rattle.offset.proofs.loader_start.Goals as goal
 
 pub loop-i-init : goal.loop-i-init
 unfolding loader_in
-loop-i-init c = (search rules, refl)
+loop-i-init c = refl
 
 pub read_section_header-s-requires : goal.read_section_header-s-requires
 read_section_header-s-requires c = let a = c.args in rw c.section_start-base.ensures (section-whole a.h.format a.h.opthdr a.h.nscns c.loop-i.i (length a.file.now) c.loop-i-test.true c.requires.0.inside)
 
 pub loop-i-preserved : goal.loop-i-preserved
-loop-i-preserved c = let a = c.args in let l = c.loop-i in (search rules, c.later-start.ensures ∙ rw l.invariant.1 (loader-more a.file.now a.h l.i (rw c.section_start-base.ensures at c.read_section_header-s.ensures)))
-
-pub returns : goal.returns
-returns c = let l = c.loop-i in let e : l.i ≡ c.args.h.nscns = omega arith in rw e at l.invariant.1
+loop-i-preserved c = let a = c.args in let l = c.loop-i in c.later-start.ensures ∙ rw l.invariant (loader-more a.file.now a.h l.i (rw c.section_start-base.ensures at c.read_section_header-s.ensures))

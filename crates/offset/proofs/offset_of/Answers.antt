@@ -5,10 +5,10 @@ use Rattle.offset.proofs.Inside.{known-length}
 use Rattle.offset.proofs.offset_of.Goals as goal
 
 pub offset_in-requires : goal.offset_in-requires
-offset_in-requires c = let a = c.args in let e = found c.find_starts-a.ensures c.in-Known.is in (known_small a.file.now e, known-length a.file.now e)
+offset_in-requires c = let a = c.args in let e = found c.find_starts-a.ensures c.in-Some.is in (known_small a.file.now e, known-length a.file.now e)
 
-pub returns-in-Unknown : goal.returns-in-Unknown
-returns-in-Unknown c = rw (← c.find_starts-a.ensures, c.in-Unknown.is) refl
+pub returns-in-None : goal.returns-in-None
+returns-in-None c = rw (← c.find_starts-a.ensures, c.in-None.is) refl
 
-pub returns-in-Known : goal.returns-in-Known
-returns-in-Known c = rw (← c.find_starts-a.ensures, c.in-Known.is) c.offset_in.ensures
+pub returns-in-Some : goal.returns-in-Some
+returns-in-Some c = rw (← c.find_starts-a.ensures, c.in-Some.is) c.offset_in.ensures

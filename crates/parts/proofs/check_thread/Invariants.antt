@@ -1,11 +1,8 @@
-use Prim.Native.Nat.{◌≤◌, ◌-◌}
+use Prim.Native.Nat.{◌-◌}
 use mathlib.Core.Path.{◌≡◌}
 use Rattle.refusal.specs.Order.{first_of}
 use Rattle.parts.specs.Sections.{thread_at}
 use Rattle.parts.proofs.check_thread.Given as goal
 
 abbrev pub invariant-loop-i : goal.invariant-loop-i
-invariant-loop-i l = (l.i ≤ l.count) × (first_of (thread_at l.sections) 0 l.count ≡ first_of (thread_at l.sections) l.i (l.count - l.i))
-
-abbrev pub decreases-loop-i : goal.decreases-loop-i
-decreases-loop-i l = l.count - l.i
+invariant-loop-i l = first_of (thread_at l.fn.sections) 0 l.count ≡ first_of (thread_at l.fn.sections) l.i (l.count - l.i)

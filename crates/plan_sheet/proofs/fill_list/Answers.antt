@@ -1,21 +1,13 @@
 use Rattle.std.proofs.Common.{rules}
-use Prim.Native.Nat.{◌*◌, ◌+◌, ◌-◌}
-use lib.ListN.{length, length-set}
-use lib.Seq.{sets}
-use mathlib.Core.Path.{◌∙◌, refl, sym}
-use native.Mathlib.Nat.{add-zero, sub-zero}
+use Prim.Native.Nat.{◌*◌, ◌+◌}
+use lib.ListN.{length}
+use mathlib.Core.Path.{◌∙◌, sym}
 use Rattle.sheet.proofs.Addresses.{fill_end, fill-next, length-numbers}
 use Rattle.update.proofs.Stores.{sets-whole}
 use Rattle.plan_sheet.proofs.fill_list.Goals as goal
 
-pub loop-i-init : goal.loop-i-init
-loop-i-init c = (search rules, refl, rw (sub-zero, add-zero) refl)
-
 pub loop-i-preserved : goal.loop-i-preserved
-loop-i-preserved c = let a = c.args in (search rules, simp length-set c.loop-i.invariant.1, fill-next a.sheet.now c.loop-i.list a.start c.loop-i.i (length a.list.now) _ (search rules) c.get64.ensures ∙ c.loop-i.invariant.2)
-
-pub shape_of-list : goal.shape_of-list
-shape_of-list c = c.loop-i.invariant.1
+loop-i-preserved c = let a = c.args in fill-next a.sheet.now c.loop-i.list a.start c.loop-i.i (length a.list.now) _ (search rules) c.get64.ensures ∙ c.loop-i.invariant
 
 pub returns : goal.returns
-returns c = let a = c.args in sym (fill_end a.sheet.now c.loop-i.list (a.start + c.loop-i.i * 8) c.loop-i.i (length a.list.now) (search rules)) ∙ c.loop-i.invariant.2 ∙ sets-whole a.list.now _ (length-numbers a.sheet.now a.start (length a.list.now))
+returns c = let a = c.args in sym (fill_end a.sheet.now c.loop-i.list (a.start + c.loop-i.i * 8) c.loop-i.i (length a.list.now) (search rules)) ∙ c.loop-i.invariant ∙ sets-whole a.list.now _ (length-numbers a.sheet.now a.start (length a.list.now))

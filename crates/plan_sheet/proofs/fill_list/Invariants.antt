@@ -1,4 +1,4 @@
-use Prim.Native.Nat.{◌*◌, ◌+◌, ◌-◌, ◌≤◌}
+use Prim.Native.Nat.{◌*◌, ◌+◌, ◌-◌}
 use lib.ListN.{length}
 use lib.Seq.{sets}
 use mathlib.Core.Path.{◌≡◌}
@@ -6,7 +6,6 @@ use Rattle.sheet.specs.Sheet.{numbers_from}
 use Rattle.plan_sheet.proofs.fill_list.Given as goal
 
 abbrev pub invariant-loop-i : goal.invariant-loop-i
-invariant-loop-i l = (l.i ≤ length l.initial.list) × (length l.list ≡ length l.initial.list) × (sets l.list l.i (numbers_from l.sheet (l.start + l.i * 8) (length l.initial.list - l.i)) ≡ sets l.initial.list 0 (numbers_from l.sheet l.start (length l.initial.list)))
-
-abbrev pub decreases-loop-i : goal.decreases-loop-i
-decreases-loop-i l = length l.initial.list - l.i
+invariant-loop-i l =
+    sets l.list l.i (numbers_from l.sheet (l.start + l.i * 8) (length l.initial.list - l.i))
+    ≡ sets l.initial.list 0 (numbers_from l.sheet l.start (length l.initial.list))

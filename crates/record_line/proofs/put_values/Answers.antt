@@ -1,8 +1,5 @@
 use Rattle.std.proofs.Common.{rules}
 use native.Mathlib.Nat.{add-zero}
-use Prim.Native.Nat.{◌-◌}
-use lib.Seq.{sets}
-use lib.ListN.{length, length-set}
 use Rattle.update.proofs.Stores.{sets-whole}
 use Rattle.record.specs.Count.{values_at}
 use Rattle.record.proofs.Values.{length-values, value-stored, value-missed, values-end}
@@ -11,16 +8,13 @@ use native.Mathlib.Omega.{arith}
 use Rattle.record_line.proofs.put_values.Goals as goal
 
 pub loop-i-init : goal.loop-i-init
-loop-i-init c = let a = c.args in (omega arith, refl, rw (add-zero a.p) refl, rw (add-zero a.p) (omega arith), omega arith)
-
-pub overflow_add-wrong : goal.overflow_add-wrong
-overflow_add-wrong c = omega (arith, c.miss-wrong.ensures.1, c.loop-i.invariant.4)
+loop-i-init c = let a = c.args in (rw (add-zero a.p) refl, rw (add-zero a.p) (omega arith), omega arith)
 
 pub loop-i-preserved : goal.loop-i-preserved
-loop-i-preserved c = let a = c.args in let l = c.loop-i in let h = c.loop-i-test.true in let x = c.value-x.ensures.0 in let m = rw (c.digit.ensures, x) at c.miss-wrong.ensures.0 in (search rules, simp length-set l.invariant.1, rw x (value-stored a.t.now l.v a.p 64 l.i h) ∙ l.invariant.2, omega (arith, m, l.invariant.3, value-missed a.t.now a.p 64 l.i h), omega (arith, c.miss-wrong.ensures.1, l.invariant.4))
+loop-i-preserved c = let a = c.args in let l = c.loop-i in let h = c.loop-i-test.true in let x = c.value-x.ensures.0 in let m = rw (c.digit.ensures, x) at c.miss-wrong.ensures.0 in (rw x (value-stored a.t.now l.v a.p 64 l.i h) ∙ l.invariant.0, omega (arith, m, l.invariant.1, value-missed a.t.now a.p 64 l.i h), omega (arith, c.miss-wrong.ensures.1, l.invariant.2))
 
 pub returns-clause-values : goal.returns-clause-values
-returns-clause-values c = let a = c.args in let l = c.loop-i in let e = values-end a.t.now l.v a.p 64 l.i l.i (search rules) in sym e.0 ∙ l.invariant.2 ∙ sets-whole a.v.now (values_at a.t.now a.p 64) (omega (arith, length-values a.t.now a.p 64))
+returns-clause-values c = let a = c.args in let l = c.loop-i in let e = values-end a.t.now l.v a.p 64 l.i l.i (search rules) in sym e.0 ∙ l.invariant.0 ∙ sets-whole a.v.now (values_at a.t.now a.p 64) (omega (arith, length-values a.t.now a.p 64))
 
 pub returns-clause-wrong : goal.returns-clause-wrong
-returns-clause-wrong c = let a = c.args in let l = c.loop-i in let e = values-end a.t.now l.v a.p 64 l.i l.i (search rules) in (omega (arith, e.1, l.invariant.3), omega (arith, l.invariant.4))
+returns-clause-wrong c = let a = c.args in let l = c.loop-i in let e = values-end a.t.now l.v a.p 64 l.i l.i (search rules) in (omega (arith, e.1, l.invariant.1), omega (arith, l.invariant.2))

@@ -5,7 +5,4 @@ use mathlib.Core.Path.{◌≡◌}
 use Rattle.record_line.proofs.scan_run.Given as goal
 
 abbrev pub invariant-loop-i : goal.invariant-loop-i
-invariant-loop-i l = (l.i ≤ l.n) × (l.sum + sum_of (data_at l.t (l.p + 2 * l.i) (l.n - l.i)) ≡ sum_of (data_at l.t l.p l.n)) × (l.wrong + misses l.t (l.p + 2 * l.i) (hex_of (data_at l.t (l.p + 2 * l.i) (l.n - l.i))) ≡ misses l.t l.p (hex_of (data_at l.t l.p l.n))) × (l.sum ≤ 255 * l.i) × (l.wrong ≤ 2 * l.i)
-
-abbrev pub decreases-loop-i : goal.decreases-loop-i
-decreases-loop-i l = l.n - l.i
+invariant-loop-i l = (l.sum + sum_of (data_at l.t (l.p + 2 * l.i) (l.n - l.i)) ≡ sum_of (data_at l.t l.p l.n)) × (l.wrong + misses l.t (l.p + 2 * l.i) (hex_of (data_at l.t (l.p + 2 * l.i) (l.n - l.i))) ≡ misses l.t l.p (hex_of (data_at l.t l.p l.n))) × (l.sum ≤ 255 * l.i) × (l.wrong ≤ 2 * l.i)

@@ -1,5 +1,4 @@
-use Prim.Native.Nat.{◌-◌, ◌≤◌}
-use lib.ListN.{length}
+use Prim.Native.Nat.{◌-◌}
 use mathlib.Core.Bool.{false}
 use mathlib.Core.Path.{◌≡◌}
 use Rattle.apply.specs.Shift.{ForPlans}
@@ -9,9 +8,5 @@ use Rattle.rewrite.proofs.place_entries.Given as goal
 
 abbrev pub invariant-loop-i : goal.invariant-loop-i
 invariant-loop-i l =
-    (l.i ≤ l.l.tables.nreloc) × (length l.out ≡ length l.initial.out)
-    × ForPlans (relocatable_of l.file l.l) l.d false l.imports l.imports (λ s. place_all l.l.layout.parts (relocations_from l.file l.l l.i (l.l.tables.nreloc - l.i)) s l.out
+    ForPlans (relocatable_of l.file l.l) l.d false l.imports l.imports (λ s. place_all l.l.layout.parts (relocations_from l.file l.l l.i (l.l.tables.nreloc - l.i)) s l.out
     ≡ place_all l.l.layout.parts (relocations_from l.file l.l 0 l.l.tables.nreloc) s l.initial.out)
-
-abbrev pub decreases-loop-i : goal.decreases-loop-i
-decreases-loop-i l = l.l.tables.nreloc - l.i

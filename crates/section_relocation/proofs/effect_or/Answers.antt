@@ -1,7 +1,7 @@
 use Rattle.section_relocation.proofs.effect_or.Goals as goal
 
-pub returns-in-Known : goal.returns-in-Known
-returns-in-Known c = rw (← c.effect_of-a.ensures, c.in-Known.is)
+pub returns-in-Some : goal.returns-in-Some
+returns-in-Some c = rw (← c.effect_of-a.ensures, c.in-Some.is)
 
-pub returns-in-Unknown : goal.returns-in-Unknown
-returns-in-Unknown c = rw (← c.effect_of-a.ensures, c.in-Unknown.is)
+pub returns-in-None : goal.returns-in-None
+returns-in-None c = rw (← c.effect_of-a.ensures, c.in-None.is)

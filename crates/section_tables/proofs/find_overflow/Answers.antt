@@ -1,19 +1,20 @@
-use Rattle.std.proofs.Common.{rules}
-use mathlib.Core.Path.{◌≡◌, refl}
+use Rattle.std.proofs.Common.{◌<◌, length-take, get_or-take}
+use mathlib.Core.Path.{refl}
 use native.Mathlib.Omega.{arith}
 use Rattle.section_tables.specs.Tables.{overflow_in}
 use Rattle.section_tables.proofs.Tables.{overflow-few, overflow-next}
 use Rattle.section_tables.proofs.find_overflow.Goals as goal
 
-pub loop-i-init : goal.loop-i-init
+pub loop-s-init : goal.loop-s-init
 unfolding overflow_in
-loop-i-init c = (search rules, refl)
+loop-s-init c = refl
 
 pub overflow_step-o-requires : goal.overflow_step-o-requires
-overflow_step-o-requires c = let a = c.args in rw c.loop-i.invariant.1 (omega (arith, overflow-few a.k a.sections a.n c.loop-i.i))
+overflow_step-o-requires c = let a = c.args in rw c.loop-s.invariant (omega (arith, length-take a.count a.sections, overflow-few a.k a.sections a.n c.loop-s.s-index))
 
-pub loop-i-preserved : goal.loop-i-preserved
-loop-i-preserved c = let a = c.args in (search rules, overflow-next a.k a.sections a.n c.loop-i.i c.loop-i.invariant.1 c.overflow_step-o.ensures)
-
-pub returns : goal.returns
-returns c = let l = c.loop-i in let e : l.i ≡ c.args.count = omega arith in rw e at l.invariant.1
+pub loop-s-preserved : goal.loop-s-preserved
+loop-s-preserved c =
+    let a = c.args in
+    let l = c.loop-s in
+    let h : l.s-index < a.count = omega (arith, length-take a.count a.sections) in
+    overflow-next a.k a.sections a.n l.s-index l.invariant (rw get_or-take at c.overflow_step-o.ensures)

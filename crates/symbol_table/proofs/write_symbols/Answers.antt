@@ -18,13 +18,13 @@ pub returns-in_default : goal.returns-in_default
 returns-in_default c = let a = c.args in let l = c.loop-i in listing-end a.file.now a.t a.out.now l.visited l.i (visited-stop a.file.now a.t l.i l.visited l.invariant.few c.loop-i-test.true (found c.symbol_in-a.ensures c.in_default.is)) c.requires.1 l.invariant
 
 pub symbol_row-row-requires : goal.symbol_row-row-requires
-symbol_row-row-requires c = (c.requires.0, found c.symbol_in-a.ensures c.in-Found.is)
+symbol_row-row-requires c = (c.requires.0, found c.symbol_in-a.ensures c.in-Ok.is)
 
 pub overflow_mul-visited : goal.overflow_mul-visited
-overflow_mul-visited c = let a = c.args in let l = c.loop-i in omega (arith, l.invariant.same, row_inside a.file.now a.t l.out l.visited l.i c.loop-i-test.true l.invariant (found c.symbol_in-a.ensures c.in-Found.is))
+overflow_mul-visited c = let a = c.args in let l = c.loop-i in omega (arith, l.invariant.same, row_inside a.file.now a.t l.out l.visited l.i c.loop-i-test.true l.invariant (found c.symbol_in-a.ensures c.in-Ok.is))
 
 pub write_row-requires : goal.write_row-requires
-write_row-requires c = let a = c.args in let l = c.loop-i in omega (arith, row_inside a.file.now a.t l.out l.visited l.i c.loop-i-test.true l.invariant (found c.symbol_in-a.ensures c.in-Found.is))
+write_row-requires c = let a = c.args in let l = c.loop-i in omega (arith, row_inside a.file.now a.t l.out l.visited l.i c.loop-i-test.true l.invariant (found c.symbol_in-a.ensures c.in-Ok.is))
 
 pub overflow_add-visited : goal.overflow_add-visited
 overflow_add-visited c = omega (arith, c.loop-i.invariant.few, c.loop-i-test.true)
@@ -33,13 +33,13 @@ pub overflow_add-i : goal.overflow_add-i
 overflow_add-i c = omega (arith, c.loop-i-test.true)
 
 pub overflow_add-i-in-loop-i : goal.overflow_add-i-in-loop-i
-overflow_add-i-in-loop-i c = let a = c.args in let l = c.loop-i in let t = tables-inside a.file.now a.t c.requires.0 in omega (arith, t.symbols, t.small, next-inside a.file.now a.t l.out l.visited l.i c.loop-i-test.true l.invariant (found c.symbol_in-a.ensures c.in-Found.is))
+overflow_add-i-in-loop-i c = let a = c.args in let l = c.loop-i in let t = tables-inside a.file.now a.t c.requires.0 in omega (arith, t.symbols, t.small, next-inside a.file.now a.t l.out l.visited l.i c.loop-i-test.true l.invariant (found c.symbol_in-a.ensures c.in-Ok.is))
 
 pub loop-i-smaller : goal.loop-i-smaller
-loop-i-smaller c = let a = c.args in let l = c.loop-i in omega (arith, next-inside a.file.now a.t l.out l.visited l.i c.loop-i-test.true l.invariant (found c.symbol_in-a.ensures c.in-Found.is))
+loop-i-smaller c = let a = c.args in let l = c.loop-i in omega (arith, next-inside a.file.now a.t l.out l.visited l.i c.loop-i-test.true l.invariant (found c.symbol_in-a.ensures c.in-Ok.is))
 
 pub loop-i-preserved : goal.loop-i-preserved
-loop-i-preserved c = let a = c.args in let l = c.loop-i in listing-next a.file.now a.t l.out l.visited l.i c.loop-i-test.true l.invariant (found c.symbol_in-a.ensures c.in-Found.is) c.symbol_row-row.ensures c.write_row.ensures
+loop-i-preserved c = let a = c.args in let l = c.loop-i in listing-next a.file.now a.t l.out l.visited l.i c.loop-i-test.true l.invariant (found c.symbol_in-a.ensures c.in-Ok.is) c.symbol_row-row.ensures c.write_row.ensures
 
 pub shape_of-out : goal.shape_of-out
 shape_of-out c = c.loop-i.invariant.same

@@ -1,5 +1,5 @@
 use mathlib.Core.Path.{refl, ◌∙◌}
 use Rattle.table_replay.proofs.answer_head.Goals as goal
 
-pub returns-in-Refused : goal.returns-in-Refused
-returns-in-Refused c = c.refusal_head.ensures ∙ rw c.in-Refused.is refl
+pub returns-in-Err : goal.returns-in-Err
+returns-in-Err c = c.refusal_head.ensures ∙ rw c.in-Err.is refl

@@ -1,8 +1,8 @@
 use mathlib.Core.Path.{◌∙◌, ◌≡◌, refl, sym}
 use native.Mathlib.Omega.{arith}
-use Prim.Native.Nat.{◌-◌}
+use Rattle.script.proofs.Loop.{accepted-one}
 use Rattle.table_replay.specs.Script.{call_end}
-use Rattle.table_replay.proofs.Answer.{accepted-one, counted-bounds, left-first, left-next, replayed}
+use Rattle.table_replay.proofs.Answer.{counted-bounds, left-first, left-next, replayed}
 use Rattle.table_replay.proofs.Ends.{call-inside, call-longer, call_none}
 use Rattle.table_replay.proofs.replay_table.Goals as goal
 

@@ -1,6 +1,5 @@
 -- Each division takes one place away, and what is left at the end has one.
 use Rattle.text.proofs.Number.{places-one, places-more, places-short}
-use Rattle.text.specs.Text.{places}
 use native.Mathlib.Omega.{arith}
 use Rattle.text.proofs.count_places.Goals as goal
 

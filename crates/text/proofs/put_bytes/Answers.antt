@@ -1,17 +1,14 @@
--- What is left of the text, stored from at + i on, gives the whole.
-use Rattle.std.proofs.Common.{rules}
-use native.Mathlib.Nat.{add-zero}
-use Rattle.text.proofs.Stores.{store-next}
-use lib.ListN.{drop_of_length-le}
-use Prim.Native.Nat.{◌-◌}
-use mathlib.Core.Path.{◌∙◌, sym}
+-- What a copy leaves is what the stores of its bytes leave.
+use Rattle.std.proofs.Common.{◌-◌, ◌+◌, length, refl, sym, arith, append_assoc}
+use Rattle.std.proofs.lemmas.List.Edits.{sets-eq, paste_all}
+use Rattle.std.proofs.lemmas.Slice.{put_mid-paste}
+use mathlib.Core.Path.{◌∙◌}
 use Rattle.text.proofs.put_bytes.Goals as goal
 
-pub loop-i-init : goal.loop-i-init
-loop-i-init c = (search rules, rw add-zero)
-
-pub loop-i-preserved : goal.loop-i-preserved
-loop-i-preserved c = (search rules, sym (store-next c.loop-i.out c.args.at c.loop-i.i c.args.s.now (search rules)) ∙ c.loop-i.invariant.1)
-
 pub returns-clause-text : goal.returns-clause-text
-returns-clause-text c = rw (drop_of_length-le c.args.s.now {i = c.loop-i.i} (search rules)) at c.loop-i.invariant.1
+returns-clause-text c =
+    let a = c.args in
+    let s = a.s.now in
+    put_mid-paste a.at (a.at + length s - a.at) a.out.now _ s (length s) c.copy_from_slice.ensures.after (omega arith) refl
+    ∙ paste_all a.out.now a.at s (length s) refl
+    ∙ sym (rw append_assoc at (sets-eq s a.out.now a.at (omega arith)))

@@ -1,7 +1,7 @@
 use Rattle.walk.proofs.report_walk.Goals as goal
 
-pub returns-in-Refused : goal.returns-in-Refused
-returns-in-Refused c = rw (c.in-Refused.is, c.refusal_head.ensures, c.accepted_head.ensures)
+pub returns-in-Err : goal.returns-in-Err
+returns-in-Err c = rw (c.in-Err.is, c.refusal_head.ensures, c.accepted_head.ensures)
 
-pub returns-in-Ended : goal.returns-in-Ended
-returns-in-Ended c = rw (c.in-Ended.is, c.accepted_head-in-Ended.ensures, c.report_head.ensures)
+pub returns-in-Ok : goal.returns-in-Ok
+returns-in-Ok c = rw (c.in-Ok.is, c.accepted_head-in-Ok.ensures, c.report_head.ensures)

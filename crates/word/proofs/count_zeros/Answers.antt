@@ -2,7 +2,6 @@ use Rattle.std.proofs.Common.{rules}
 use Prim.Native.Nat.{◌+◌, ◌-◌}
 use lib.ListN.{length}
 use native.Mathlib.Omega.{arith}
-use Rattle.word.specs.Zero.{zeros_in}
 use Rattle.word.proofs.Number.{length-field}
 use Rattle.word.proofs.Zero.{zeros-block, zeros-end, zeros-few}
 use Rattle.word.proofs.count_zeros.Goals as goal

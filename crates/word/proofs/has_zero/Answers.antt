@@ -1,14 +1,10 @@
 use Rattle.std.proofs.Common.{rules}
-use Prim.Native.Nat.{◌-◌}
-use mathlib.Core.Path.{◌∙◌, refl, sym}
+use mathlib.Core.Path.{◌∙◌, sym}
 use Rattle.word.proofs.Zero.{zero-among, zero-among-none}
 use Rattle.word.proofs.has_zero.Goals as goal
 
-pub loop-i-init : goal.loop-i-init
-loop-i-init c = (search rules, refl)
-
-pub loop-i-preserved : goal.loop-i-preserved
-loop-i-preserved c = let s = c.args.block.now in let l = c.loop-i in (search rules, rw c.is_zero_or-found.ensures (l.invariant.1 ∙ zero-among s l.i l.found (search rules)))
+pub loop-b-preserved : goal.loop-b-preserved
+loop-b-preserved c = let s = c.args.block.now in let l = c.loop-b in rw c.is_zero_or-found.ensures (l.invariant ∙ zero-among s l.b-index l.found (search rules))
 
 pub returns : goal.returns
-returns c = let s = c.args.block.now in let l = c.loop-i in sym (l.invariant.1 ∙ zero-among-none s l.i l.found (search rules))
+returns c = let s = c.args.block.now in let l = c.loop-b in sym (l.invariant ∙ zero-among-none s l.b-index l.found (search rules))

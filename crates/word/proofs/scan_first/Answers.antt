@@ -1,18 +1,15 @@
-use Rattle.std.proofs.Common.{rules}
-use Prim.Native.Nat.{◌-◌}
-use native.Mathlib.Nat.{zero-add}
-use native.Mathlib.Omega.{arith}
-use Rattle.word.proofs.Zero.{zero-here, zero-later, zero-none}
+use Rattle.std.proofs.Common.{rules, length}
+use borrow.Author.Tests.{tests}
+use lib.Dec.{eqb}
+use mathlib.Core.Path.{◌∙◌, ap}
+use Rattle.std.specs.Option.{unwrap_or}
+use Rattle.std.proofs.lemmas.Iterator.{YieldsList-from_slice}
+use Rattle.std.proofs.lemmas.Iterator.Search.{position_from_yields_List}
+use Rattle.word.proofs.Zero.{first-position}
 use Rattle.word.proofs.scan_first.Goals as goal
 
-pub loop-i-init : goal.loop-i-init
-loop-i-init c = (search rules, rw zero-add)
-
-pub returns-then-s-i-eq0 : goal.returns-then-s-i-eq0
-returns-then-s-i-eq0 c = omega (arith, zero-here c.args.s.now c.loop-i.i (search rules) c.if-s-i-eq0.true)
-
-pub loop-i-preserved : goal.loop-i-preserved
-loop-i-preserved c = (search rules, omega (arith, zero-later c.args.s.now c.loop-i.i (search rules) c.if-s-i-eq0.false))
-
 pub returns : goal.returns
-returns c = omega (arith, zero-none c.args.s.now c.loop-i.i (search rules))
+returns c =
+    let s = c.args.s.now in
+    let found = position_from_yields_List (λ x. eqb x 0) _ _ c.position.result c.position.ensures.ran (YieldsList-from_slice s cc) (λ x b q k. search (rules, tests)) in
+    c.unwrap_or.ensures ∙ ap (λ r. unwrap_or r (length s)) found ∙ first-position s

@@ -1,16 +1,19 @@
-use Rattle.std.proofs.Common.{rules}
-use native.Mathlib.Omega.{arith}
-use Rattle.word.proofs.Zero.{zeros-less, zero-end-is}
+use Rattle.std.proofs.Common.{rules, ℕ, ◌+◌, ◌-◌, ◌<◌, ◌≡◌, get_or, length, arith}
+use borrow.Author.Tests.{tests}
+use Rattle.word.proofs.Zero.{zero-end-is}
 use Rattle.word.proofs.scan_last.Goals as goal
 
-pub loop-i-init : goal.loop-i-init
-loop-i-init c = (search rules, λ k a b e. absurd (omega arith))
+pub returns-in-Some : goal.returns-in-Some
+returns-in-Some c =
+    let s = c.args.s.now in
+    let i = c.in-Some.i in
+    let here : get_or s i 0 ≡ 0 = search (rules, tests) in
+    let behind : (k : ℕ) → i < k → k < length s → get_or s k 0 ≡ 0 → ⊥ = search (rules, tests) in
+    let same : i + 1 - 1 ≡ i = omega arith in
+    zero-end-is s _ record { within = search rules; after = λ k a. behind k (omega arith); last = λ _. rw same here }
 
-pub returns-then-s-i-eq0 : goal.returns-then-s-i-eq0
-returns-then-s-i-eq0 c = zero-end-is c.args.s.now _ record { within = search rules; after = c.loop-i.invariant.1; last = λ _. c.if-s-i-eq0.true }
-
-pub loop-i-preserved : goal.loop-i-preserved
-loop-i-preserved c = (search rules, zeros-less c.args.s.now c.loop-i.i c.loop-i-test.true c.if-s-i-eq0.false c.loop-i.invariant.1)
-
-pub returns : goal.returns
-returns c = zero-end-is c.args.s.now _ record { within = search rules; after = c.loop-i.invariant.1; last = λ h. absurd (omega arith) }
+pub returns-in-None : goal.returns-in-None
+returns-in-None c =
+    let s = c.args.s.now in
+    let none : (k : ℕ) → k < length s → get_or s k 0 ≡ 0 → ⊥ = search (rules, tests) in
+    zero-end-is s _ record { within = omega arith; after = λ k a. none k; last = λ h. absurd (omega arith) }

@@ -1,6 +1,5 @@
 use Rattle.std.proofs.Common.{rules}
 use Prim.Native.Nat.{◌-◌}
-use lib.ListN.{length, take}
 use lib.Seq.{take-length, length-take-le}
 use mathlib.Core.Path.{◌∙◌, sym}
 use Rattle.word.proofs.Zero.{zero-end-block, no_zero}

@@ -1,22 +1,25 @@
-use mathlib.Core.Path.{refl, sym, ◌∙◌}
-use Prim.Native.Nat.{◌-◌}
-use native.Mathlib.Omega.{arith}
-use Rattle.section_kind.specs.Kind.{kinds, listed_kind}
-use Rattle.section_kind.proofs.Lookup.{kind-here, kind-next, kind-end}
+use Rattle.std.proofs.Common.{rules, ◌≡◌}
+use mathlib.Core.Path.{◌∙◌, ap}
+use borrow.Author.Tests.{tests}
+use lib.Dec.{eqb}
+use Rattle.std.specs.List.{find}
+use Rattle.std.specs.Option.{option_map}
+use Rattle.std.specs.Slice.Iter.{iter_rest}
+use Rattle.std.proofs.lemmas.Iterator.{YieldsList-from_slice}
+use Rattle.std.proofs.lemmas.Iterator.Search.{find_from_yields_List}
+use Rattle.section_kind.specs.Kind.{flags_of, kinds, listed_kind}
+use Rattle.section_kind.proofs.Lookup.{answer, kind-found}
 use Rattle.section_kind.proofs.SectionKind.listed.Goals as goal
+use Rattle.section_kind.proofs.SectionKind.listed.Goals.{After-find}
 
-pub loop-i-init : goal.loop-i-init
+-- what the search finds in the list
+found : (c : After-find) → iter_rest c.iter.result ≡ kinds → option_map (λ k. k.now) c.find.result ≡ find (λ k. eqb (flags_of k) c.args.low) kinds
+found c e = find_from_yields_List (λ k. eqb (flags_of k) c.args.low) _ _ _ c.find.ensures.ran (YieldsList-from_slice kinds e) (λ x b q k. search (rules, tests))
+
+pub returns-in-Some : goal.returns-in-Some
 unfolding listed_kind
-loop-i-init c = (omega arith, refl)
+returns-in-Some c = rw c.in-Some.is at (ap answer (found (goal.at.returns-in-Some c).After-find c.iter.ensures.rest)) ∙ kind-found c.args.low kinds
 
-pub returns-then-flags-low : goal.returns-then-flags-low
-returns-then-flags-low c = let l = c.loop-i in let low = c.args.low in sym (kind-here low kinds l.i (omega (arith, c.loop-i-test.true)) (sym c.flags.ensures ∙ c.if-flags-low.true)) ∙ l.invariant.1
-
-pub loop-i-smaller : goal.loop-i-smaller
-loop-i-smaller c = omega (arith, c.loop-i-test.true)
-
-pub loop-i-preserved : goal.loop-i-preserved
-loop-i-preserved c = let l = c.loop-i in let low = c.args.low in let h = c.loop-i-test.true in (omega arith, kind-next low kinds l.i (omega (arith, h)) (λ e. c.if-flags-low.false (c.flags.ensures ∙ e)) ∙ l.invariant.1)
-
-pub returns : goal.returns
-returns c = let l = c.loop-i in kind-end c.args.low kinds l.i (omega (arith, c.loop-i-test.false)) ∙ l.invariant.1
+pub returns-in-None : goal.returns-in-None
+unfolding listed_kind
+returns-in-None c = rw c.in-None.is at (ap answer (found (goal.at.returns-in-None c).After-find c.iter.ensures.rest)) ∙ kind-found c.args.low kinds
