@@ -1,2 +1,3 @@
--- The laws of numbers put.
+-- The laws of a copy.
+pub mod Copy
 pub mod Put

@@ -1,13 +1,13 @@
 -- Sections' bytes copied end to end. Assumes nothing.
 use Prim.Native.Nat.{ℕ, suc, ◌+◌, ◌-◌, ◌≤◌, ◌<◌}
-use mathlib.Core.Path.{◌≡◌, refl, sym, ◌∙◌, ap}
+use mathlib.Core.Path.{◌≡◌, refl, sym, ◌∙◌, ap, ap₂}
 use mathlib.Core.List.{List, [], ◌++◌, append-nil, append_assoc}
 use native.Mathlib.Decide.{dec_lt}
 use native.Mathlib.Nat.{sub-zero}
 use native.Mathlib.Numerals.{add-one}
 use native.Mathlib.Omega.{arith}
-use lib.ListN.{length, take, drop, length-drop}
-use lib.Seq.{paste, take-paste, take_all}
+use lib.ListN.{length, get_or, set, take, drop, length-drop}
+use lib.Seq.{paste, paste-suc, take-paste, take_all, get_or-drop}
 use Rattle.header.specs.declared.Summary.{Summary}
 use Rattle.symbol.specs.declared.Tables.{Tables}
 use Rattle.section_relocation.specs.declared.ObjectSection.{ObjectSection}
@@ -25,6 +25,14 @@ part_length f at n h = by (dec_lt 0 n)
     by : Dec (0 < n) → n ≤ length (drop at f)
     by (yes s) = rw length-drop (omega (arith, h s))
     by (no s) = omega arith
+
+-- a turn of the loop that copies n bytes to a place
+pub copy-turn : (d e f : List ℕ) (place at n i : ℕ) → e ≡ paste d place (drop at f) i → i < n → place + n ≤ length d → (0 < n → at + n ≤ length f)
+    → set e (place + i) (get_or f (at + i) 0) ≡ paste d place (drop at f) (i + 1)
+copy-turn d e f place at n i p h k b =
+    ap₂ (λ (x : List ℕ) (v : ℕ). set x (place + i) v) p (sym (get_or-drop at f i 0))
+    ∙ paste-suc d place (drop at f) i 0 (omega arith) (omega (arith, part_length f at n b))
+    ∙ ap (paste d place (drop at f)) (sym (add-one i))
 
 -- ---- the sections
 

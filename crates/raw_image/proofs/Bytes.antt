@@ -1,11 +1,13 @@
 -- Bytes copied and cleared, and the raw images. Assumes nothing.
-use mathlib.Core.Path.{◌≡◌, refl, ◌∙◌, ap, ap₂}
+use mathlib.Core.Path.{◌≡◌, refl, sym, ◌∙◌, ap, ap₂}
 use mathlib.Core.List.{List, ◌++◌, append-nil}
 use Prim.Native.Nat.{ℕ, ◌+◌, ◌-◌, ◌≤◌, ◌<◌}
+use native.Mathlib.Nat.{zero-add}
+use native.Mathlib.Numerals.{add-one}
 use native.Mathlib.Decide.{dec_lt}
 use native.Mathlib.Omega.{arith}
-use lib.ListN.{length, take, drop, replicate, length-drop, length-replicate, drop_of_length-le}
-use lib.Seq.{paste, take_all, take_at, length-take-le}
+use lib.ListN.{length, get_or, set, take, drop, replicate, length-drop, length-replicate, drop_of_length-le}
+use lib.Seq.{paste, paste-suc, get_or-drop, take_all, take_at, length-take-le}
 use Rattle.format.specs.Range.{range, bytes_of}
 use Rattle.loadable.specs.declared.Loadable.{Loadable}
 use Rattle.history.specs.Images.{images}
@@ -18,6 +20,20 @@ part_length f at n h = by_size (dec_lt 0 n)
     by_size : Dec (0 < n) → n ≤ length (drop at f)
     by_size (yes s) = rw length-drop (omega (arith, h s))
     by_size (no s) = omega arith
+
+module _ (d e : List ℕ) (n i : ℕ) where
+  -- a turn of the loop that copies n bytes to the start
+  pub copy-turn : (f : List ℕ) (at : ℕ) → e ≡ paste d 0 (drop at f) i → i < n → n ≤ length d → (0 < n → at + n ≤ length f)
+      → set e i (get_or f (at + i) 0) ≡ paste d 0 (drop at f) (i + 1)
+  copy-turn f at p h k b =
+      ap (λ (x : List ℕ). set x i (get_or f (at + i) 0)) p
+      ∙ ap₂ (λ (j v : ℕ). set (paste d 0 (drop at f) i) j v) (sym (zero-add i)) (sym (get_or-drop at f i 0))
+      ∙ paste-suc d 0 (drop at f) i 0 (omega arith) (omega (arith, part_length f at n b))
+      ∙ ap (paste d 0 (drop at f)) (sym (add-one i))
+
+  -- at its end i is n
+  pub copy-end : (s : List ℕ) → e ≡ paste d 0 s i → i ≡ n → e ≡ paste d 0 s n
+  copy-end s p q = p ∙ ap (paste d 0 s) q
 
 -- a section's bytes copied to the start and the rest cleared: its bytes, then zeros
 pub filled : (f d e g : List ℕ) (at n : ℕ) → (0 < n → at + n ≤ length f) → n ≤ length d → length e ≡ length d

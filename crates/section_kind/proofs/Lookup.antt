@@ -9,20 +9,16 @@ use mathlib.Core.List.{List, [], ◌∷◌}
 use lib.Dec.{eqb}
 use Rattle.section_kind.specs.declared.SectionKind.{SectionKind}
 use Rattle.section_kind.specs.declared.SectionKind.TheVariants.{Deleted}
-use Rattle.std.proofs.Common.{Option, Some, None}
+use Rattle.std.proofs.Common.{Some}
 use Rattle.std.specs.List.{find}
 use Rattle.section_kind.specs.Kind.{flags_of, kind_in}
 
--- what is found in a list, by the first kind there that has the flags
-abbrev pub answer : Option SectionKind → Option SectionKind
-answer None = None
-answer (Some k) = Some k
-
-pub kind-found : (low : ℕ) (ks : List SectionKind) → answer (find (λ k. eqb (flags_of k) low) ks) ≡ kind_in low ks
+-- what is found in a list is the first kind there that has the flags
+pub kind-found : (low : ℕ) (ks : List SectionKind) → find (λ k. eqb (flags_of k) low) ks ≡ kind_in low ks
 kind-found low [] = refl
 kind-found low (k ∷ ks) = by-test (eqb (flags_of k) low) (kind-found low ks)
   where
-    by-test : (b : Bool) → answer (find (λ k. eqb (flags_of k) low) ks) ≡ kind_in low ks → answer (cond b (Some k) (find (λ k. eqb (flags_of k) low) ks)) ≡ cond b (Some k) (kind_in low ks)
+    by-test : (b : Bool) → find (λ k. eqb (flags_of k) low) ks ≡ kind_in low ks → cond b (Some k) (find (λ k. eqb (flags_of k) low) ks) ≡ cond b (Some k) (kind_in low ks)
     by-test true h = refl
     by-test false h = h
 

@@ -97,10 +97,7 @@ impl SectionKind {
     fn listed(low: u64) -> Option<SectionKind>
         ensures { result ≡ listed_kind low }
     {
-        match SectionKind::LIST.iter().find(|k| k.flags() == low) {
-            Some(k) => Some(*k),
-            None => None,
-        }
+        SectionKind::LIST.iter().find(|k| k.flags() == low).copied()
     }
 
     // The high 16 bits are 0, for dwarf not looked at.

@@ -38,15 +38,19 @@ pub fn walk_tables(file: &[u8], t: Tables) -> WalkEnd
     while i < count {
         let e = symbol::entry_in(file, t, SymbolIndex(i));
         let cause = symbol::check_entry(file, t, SymbolIndex(i), e);
-        if cause.is_err() {
-            return WalkEnd {
-                visited,
-                end: SymbolIndex(i),
-                cause,
-            };
+        match cause {
+            Err(x) => {
+                return WalkEnd {
+                    visited,
+                    end: SymbolIndex(i),
+                    cause: Err(x),
+                };
+            }
+            Ok(()) => {
+                i = i + 1 + e.numaux;
+                visited += 1;
+            }
         }
-        i = i + 1 + e.numaux;
-        visited += 1;
     }
     WalkEnd {
         visited,

@@ -17,11 +17,11 @@ use Rattle.std.specs.Option.{unwrap_or}
 use Rattle.word.specs.Zero.{first_zero, zeros_in, end_before, zero_end}
 
 -- a zero at i, and something else at i
-zero-here : (s : List ℕ) (i : ℕ) → i < length s → get_or s i 0 ≡ 0 → first_zero (drop i s) ≡ 0
+pub zero-here : (s : List ℕ) (i : ℕ) → i < length s → get_or s i 0 ≡ 0 → first_zero (drop i s) ≡ 0
 unfolding first_zero
 zero-here s i h e = rw (drop-cons s i 0, e)
 
-zero-later : (s : List ℕ) (i : ℕ) → i < length s → (get_or s i 0 ≡ 0 → ⊥) → first_zero (drop i s) ≡ suc (first_zero (drop (i + 1) s))
+pub zero-later : (s : List ℕ) (i : ℕ) → i < length s → (get_or s i 0 ≡ 0 → ⊥) → first_zero (drop i s) ≡ suc (first_zero (drop (i + 1) s))
 unfolding first_zero
 zero-later s i h n = rw (add-one, drop-cons s i 0, ne_eqb (get_or s i 0) 0 n)
 

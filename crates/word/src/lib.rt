@@ -122,7 +122,7 @@ pub fn read_field(s: &[u8], base: usize, f: Field) -> u64
     }
 }
 
-// The place of the first zero, or the length where there is none. Most names are short: where a zero is near, the plain loop is the quickest.
+// The place of the first zero, or the length where there is none. Most names are short: where a zero is near, the plain search is the quickest.
 pub fn first_zero(s: &[u8]) -> usize
     ensures { result ≡ first_zero s.now }
 {

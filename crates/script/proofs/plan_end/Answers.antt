@@ -9,7 +9,7 @@ pub returns-then-len-at-2 : goal.returns-then-len-at-2
 returns-then-len-at-2 g c = plan-short g.row.HEAD c.args.s.now c.args.at (omega arith)
 
 pub returns-then-len-at-3 : goal.returns-then-len-at-3
-returns-then-len-at-3 g c = plan-over g.row.HEAD c.args.s.now c.args.at (omega arith) c.if-len-at-3.true
+returns-then-len-at-3 g c = plan-over g.row.HEAD c.args.s.now c.args.at (omega arith) (omega arith)
 
 pub returns : goal.returns
-returns g c = plan-whole g.row.HEAD c.args.s.now c.args.at (omega arith) c.if-len-at-3.false
+returns g c = plan-whole g.row.HEAD c.args.s.now c.args.at (omega arith) (omega arith)

@@ -1,5 +1,5 @@
 use Rattle.std.proofs.Common.{rules, ◌≡◌}
-use mathlib.Core.Path.{◌∙◌, ap}
+use mathlib.Core.Path.{◌∙◌}
 use borrow.Author.Tests.{tests}
 use lib.Dec.{eqb}
 use Rattle.std.specs.List.{find}
@@ -8,7 +8,7 @@ use Rattle.std.specs.Slice.Iter.{iter_rest}
 use Rattle.std.proofs.lemmas.Iterator.{YieldsList-from_slice}
 use Rattle.std.proofs.lemmas.Iterator.Search.{find_from_yields_List}
 use Rattle.section_kind.specs.Kind.{flags_of, kinds, listed_kind}
-use Rattle.section_kind.proofs.Lookup.{answer, kind-found}
+use Rattle.section_kind.proofs.Lookup.{kind-found}
 use Rattle.section_kind.proofs.SectionKind.listed.Goals as goal
 use Rattle.section_kind.proofs.SectionKind.listed.Goals.{After-find}
 
@@ -16,10 +16,6 @@ use Rattle.section_kind.proofs.SectionKind.listed.Goals.{After-find}
 found : (c : After-find) → iter_rest c.iter.result ≡ kinds → option_map (λ k. k.now) c.find.result ≡ find (λ k. eqb (flags_of k) c.args.low) kinds
 found c e = find_from_yields_List (λ k. eqb (flags_of k) c.args.low) _ _ _ c.find.ensures.ran (YieldsList-from_slice kinds e) (λ x b q k. search (rules, tests))
 
-pub returns-in-Some : goal.returns-in-Some
+pub returns : goal.returns
 unfolding listed_kind
-returns-in-Some c = rw c.in-Some.is at (ap answer (found (goal.at.returns-in-Some c).After-find c.iter.ensures.rest)) ∙ kind-found c.args.low kinds
-
-pub returns-in-None : goal.returns-in-None
-unfolding listed_kind
-returns-in-None c = rw c.in-None.is at (ap answer (found (goal.at.returns-in-None c).After-find c.iter.ensures.rest)) ∙ kind-found c.args.low kinds
+returns c = c.copied.ensures ∙ found (goal.at.returns c).After-find c.iter.ensures.rest ∙ kind-found c.args.low kinds
