@@ -189,14 +189,10 @@ pub fn effect_of(f: Format, e: SectionEntry) -> Option<Effect>
 pub fn effect_or(f: Format, e: SectionEntry) -> Effect
     ensures { result ≡ effect_or (effect_of f e) }
 {
-    let a = effect_of(f, e);
-    match a {
-        Some(x) => x,
-        None => Effect {
-            kind: FieldKind::Nothing,
-            amount: AmountKind::Plus,
-        },
-    }
+    effect_of(f, e).unwrap_or(Effect {
+        kind: FieldKind::Nothing,
+        amount: AmountKind::Plus,
+    })
 }
 
 // Whether a field has bytes.
